@@ -1,0 +1,54 @@
+-- `Conic::compute_quad_pow2_from` meets its contract: each answer by the tests that led to it. Assumes nothing.
+use mathlib.Core.Path.{sym, _∙_}
+use borrow.Author.Needs.{needs}
+use Rattle.conic.proofs.Levels.{chosen}
+use Rattle.conic.proofs.Sources.{was-made, was-refused}
+use Rattle.conic.specs.Level.{levelAnswer}
+use Rattle.conic.proofs.Conic.compute_quad_pow2_from.Statement.{statement}
+use Rattle.conic.proofs.Conic.compute_quad_pow2_from.Tie as tie
+
+is-bad-requires : tie.Need-is-bad-requires
+is-bad-requires c κs = search needs
+
+returns : tie.Need-returns
+unfolding levelAnswer
+returns c = chosen (rw (← c .before .is-bad .ensures, c .if1 .taken))
+
+from-points-requires : tie.Need-from-points-requires
+from-points-requires c κs = search needs
+
+enum-known-c : tie.Need-enum-known-c
+enum-known-c c = search needs
+
+compute-quad-pow2-requires : tie.Need-compute-quad-pow2-requires
+compute-quad-pow2-requires c κs = search needs
+
+enum-known-r : tie.Need-enum-known-r
+enum-known-r c = search needs
+
+returns-2 : tie.Need-returns-2
+returns-2 c =
+    let s = c .before .before .before .before .before .before .before .before .args in
+    let told = was-made (s .src .now) (s .weight) (c .before .before .c .given .0 .0) (sym (c .before .before .before .before .from-points .ensures .answer) ∙ c .before .before .c .given .1) in
+    let done = c .compute-quad-pow2 .ensures .answer in
+    chosen (cc)
+
+returns-3 : tie.Need-returns-3
+unfolding levelAnswer
+returns-3 c =
+    let s = c .before .before .before .before .before .before .before .args in
+    let told = was-refused (s .src .now) (s .weight) (c .before .r .given .0 .0) (sym (c .before .before .before .from-points .ensures .answer) ∙ c .before .r .given .1) in
+    chosen (rw (told .0, told .1, ← c .before .before .before .before .before .is-bad .ensures, c .before .before .before .before .if1 .left))
+
+pub compute-quad-pow2-from-spec : {M : Type 1} → statement M
+compute-quad-pow2-from-spec =
+    tie.close
+    (tie.spec
+    is-bad-requires
+    returns
+    from-points-requires
+    enum-known-c
+    compute-quad-pow2-requires
+    enum-known-r
+    returns-2
+    returns-3)

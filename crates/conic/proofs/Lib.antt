@@ -1,0 +1,4 @@
+pub mod Agree
+pub mod Levels
+pub mod Sources
+pub mod Ways

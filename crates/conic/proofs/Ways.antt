@@ -1,0 +1,134 @@
+-- A chop by a rule whose test is the exact one keeps order, once for both directions and either axis: from a conic that runs one way it makes two that run the same way. The formulas of the chop don't enter: what is not in order is moved. Assumes nothing.
+use mathlib.Core.Path.{_≡_, refl, subst, subst⁻¹, _∙_}
+use mathlib.Core.Logic.{_⊎_, inl, inr, ⊎-elim}
+use mathlib.Core.Bool.{Bool, true, false, cond, _&&_}
+use lib.Dec.{T}
+use lib.Ieee.{Float, binary32, le, lt, sub}
+use lib.Ieee.Fits.{and-l, and-r, and-i}
+use lib.Ieee.Scale.{finite}
+use Rattle.float_laws.proofs.Order.{le-trans-float, le-self, finite-between, or-case, or-left, or-right}
+use Rattle.float_laws.specs.Absolute.{absOf}
+use Rattle.conic.specs.declared.Conic.{Conic}
+use Rattle.conic.specs.declared.Rule.{Rule}
+use Rattle.conic.specs.declared.Rule.the-variants.{Exact}
+use Rattle.conic.specs.declared.chopping.Line.{Line}
+use Rattle.conic.specs.declared.chopping.Lines.{Lines}
+use Rattle.conic.specs.Between.{test, exactTest}
+use Rattle.conic.specs.Chop.{Axis, X, Y, along, on, linesOf, halvesWith, orders, mendedLine, mendedLines, chopBy}
+use Rattle.conic.specs.Mend.{nearerOf, orderedOf, mendedOf}
+
+-- ---- a direction: `le`, or `le` turned round
+pub record Way : Type 0 where
+  pub rel : Float → Float → Bool
+  pub through : (x y z : Float) → T (rel x y) → T (rel y z) → T (rel x z)
+  pub self : (x : Float) → T (finite x) → T (rel x x)
+  pub squeeze : (x y z : Float) → T (finite x) → T (finite z) → T (rel x y) → T (rel y z) → T (finite y)
+  pub seen : (a b c : Float) → T (exactTest a b c) → (T (rel a b) × T (rel b c)) ⊎ (T (rel b a) × T (rel c b))
+  pub passes : (a b c : Float) → T (rel a b) → T (rel b c) → T (exactTest a b c)
+
+abbrev pair : (a b : Bool) → T (a && b) → T a × T b
+pair a b t = (and-l a b t, and-r a b t)
+
+unfoldable pub up-way : Way
+up-way = record {
+  rel = le;
+  through = le-trans-float;
+  self = le-self;
+  squeeze = finite-between;
+  seen = λ a b c t. or-case (le a b && le b c) (le b a && le c b) (λ h. inl (pair (le a b) (le b c) h)) (λ h. inr (pair (le b a) (le c b) h)) t;
+  passes = λ a b c h k. or-left (le a b && le b c) (le b a && le c b) (and-i (le a b) (le b c) h k);
+}
+
+unfoldable pub down-way : Way
+down-way = record {
+  rel = λ x y. le y x;
+  through = λ x y z h k. le-trans-float z y x k h;
+  self = le-self;
+  squeeze = λ x y z p q h k. finite-between z y x q p k h;
+  seen = λ a b c t. or-case (le a b && le b c) (le b a && le c b) (λ h. inr (pair (le a b) (le b c) h)) (λ h. inl (pair (le b a) (le c b) h)) t;
+  passes = λ a b c h k. or-right (le a b && le b c) (le b a && le c b) (and-i (le b a) (le c b) h k);
+}
+
+-- ---- a rule that puts the axis k in order, by the exact test
+pub record PutsInOrder (k : Axis) (u : Rule) : Type 0 where
+  pub on-axis : T (orders k u)
+  pub exact : (a b c : Float) → test u a b c ≡ exactTest a b c
+
+pub exact-rule : PutsInOrder Y Exact
+unfolding test
+exact-rule = record { on-axis = tt; exact = λ a b c. refl }
+
+true-of : (b : Bool) → T b → b ≡ true
+true-of true t = refl
+
+-- the rule's line of a chop is the ordered one where the conic's middle passes
+mended-on : (k : Axis) (u : Rule) (c : Conic) → on k (mendedLines u c) ≡ mendedLine k u c (on k (linesOf c))
+mended-on X u c = refl
+mended-on Y u c = refl
+
+is-ordered : (k : Axis) (u : Rule) (c : Conic) → T (orders k u) → T (test u (along k (c .p0)) (along k (c .p1)) (along k (c .p2)))
+    → on k (mendedLines u c) ≡ orderedOf u (along k (c .p0)) (along k (c .p2)) (on k (linesOf c))
+unfolding mendedOf
+is-ordered k u c o t = mended-on k u c ∙ rw (true-of (orders k u) o, true-of (test u (along k (c .p0)) (along k (c .p1)) (along k (c .p2))) t)
+
+by-test : (P : Float → Type 0) (b : Bool) (x y : Float) → (T b → P x) → P y → P (cond b x y)
+by-test P true x y f g = f tt
+by-test P false x y f g = g
+
+module _ (W : Way) where
+  abbrev R : Float → Float → Type 0
+  R x y = T (W .rel x y)
+
+  -- from a by b to c in W's way, between finite ends
+  pub record Run (a b c : Float) : Type 0 where
+    pub first : T (finite a)
+    pub last : T (finite c)
+    pub low : R a b
+    pub high : R b c
+
+  abbrev pub Runs : Axis → Conic → Type 0
+  Runs k c = Run (along k (c .p0)) (along k (c .p1)) (along k (c .p2))
+
+  abbrev Within : Float → Float → Float → Type 0
+  Within a c x = R a x × R x c
+
+  within : (a x c : Float) → T (exactTest a x c) → R a c → Within a c x
+  within a x c t h = ⊎-elim (λ p. p) (λ p. (W .through a c x h (p .1), W .through x a c (p .0) h)) (W .seen a x c t)
+
+  nearer-within : (a m c : Float) → T (finite a) → T (finite c) → R a c → Within a c (nearerOf a m c)
+  unfolding nearerOf
+  nearer-within a m c p q h = by-test (Within a c) (lt (absOf (sub binary32 m a)) (absOf (sub binary32 m c))) a c (λ _. (W .self a p, h)) (h, W .self c q)
+
+  -- a correction leaves what is within, and else takes a place that is
+  kept-within : (u : Rule) → ((a b c : Float) → test u a b c ≡ exactTest a b c) → (a x c y : Float) → R a c → Within a c y → Within a c (cond (test u a x c) x y)
+  kept-within u exact a x c y h k = by-test (Within a c) (test u a x c) x y (λ t. within a x c (subst T (exact a x c) t) h) k
+
+  -- both halves of an ordered line
+  line-runs : (u : Rule) → ((a b c : Float) → test u a b c ≡ exactTest a b c) → (a c : Float) (l : Line) → T (finite a) → T (finite c) → R a c
+      → Run a (orderedOf u a c l .left) (orderedOf u a c l .middle) × Run (orderedOf u a c l .middle) (orderedOf u a c l .right) c
+  unfolding orderedOf
+  line-runs u exact a c l p q h =
+      let m = orderedOf u a c l .middle in
+      let mid : Within a c m = kept-within u exact a (l .middle) c (nearerOf a (l .middle) c) h (nearer-within a (l .middle) c p q h) in
+      let left = kept-within u exact a (l .left) m a (mid .0) (W .self a p, mid .0) in
+      let right = kept-within u exact m (l .right) c c (mid .1) (mid .1, W .self c q) in
+      let fin-m = W .squeeze a m c p q (mid .0) (mid .1) in (
+        record { first = p; last = fin-m; low = left .0; high = left .1 },
+        record { first = fin-m; last = q; low = right .0; high = right .1 },
+      )
+
+  halves-of : (k : Axis) (c : Conic) (l : Lines) → Run (along k (c .p0)) (on k l .left) (on k l .middle) → Run (on k l .middle) (on k l .right) (along k (c .p2))
+      → Runs k (halvesWith c l .first) × Runs k (halvesWith c l .second)
+  unfolding halvesWith
+  halves-of X c l p q = (p, q)
+  halves-of Y c l p q = (p, q)
+
+  pub halves-run : (k : Axis) (u : Rule) → PutsInOrder k u → (c : Conic) → Runs k c → Runs k (chopBy u c .first) × Runs k (chopBy u c .second)
+  unfolding chopBy
+  halves-run k u o c g =
+      let a = along k (c .p0) in
+      let b = along k (c .p1) in
+      let e = along k (c .p2) in
+      let same = is-ordered k u c (o .on-axis) (subst⁻¹ T (o .exact a b e) (W .passes a b e (g .low) (g .high))) in
+      let runs = line-runs u (o .exact) a e (on k (linesOf c)) (g .first) (g .last) (W .through a b e (g .low) (g .high)) in
+      halves-of k c (mendedLines u c) (rw same (runs .0)) (rw same (runs .1))

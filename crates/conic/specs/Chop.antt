@@ -1,0 +1,112 @@
+-- What a chop makes of a conic: the formulas, operation by operation, for one axis at a time. Definitions only.
+use mathlib.Core.Bool.{Bool, true, false, cond}
+use lib.Ieee.{Float, binary32, binary64, add, mul, div, ofBits}
+use lib.Ieee.Scale.{finite}
+use Rattle.float_laws.specs.Narrow.{narrowOf}
+use Rattle.float_laws.specs.Root.{rootOf}
+use Rattle.point.specs.declared.Point.{Point}
+use Rattle.conic.specs.declared.Conic.{Conic}
+use Rattle.conic.specs.declared.Halves.{Halves}
+use Rattle.conic.specs.declared.Rule.{Rule}
+use Rattle.conic.specs.declared.chopping.Line.{Line}
+use Rattle.conic.specs.declared.chopping.Lines.{Lines}
+use Rattle.conic.specs.Mend.{mendedOf}
+
+abbrev pub pointFrom : Float → Float → Point
+pointFrom x y = record { x = x; y = y }
+
+abbrev pub conicFrom : Point → Point → Point → Float → Conic
+conicFrom a b c w = record { p0 = a; p1 = b; p2 = c; weight = w }
+
+pub data Axis : Type 0 where
+  X Y : Axis
+
+abbrev pub along : Axis → Point → Float
+along X p = p .x
+along Y p = p .y
+
+abbrev pub on : Axis → Lines → Line
+on X l = l .x
+on Y l = l .y
+
+abbrev pub one : Float
+one = ofBits binary32 0x3f80_0000
+
+abbrev pub half : Float
+half = ofBits binary32 0x3f00_0000
+
+abbrev pub one64 : Float
+one64 = ofBits binary64 0x3ff0_0000_0000_0000
+
+abbrev pub two64 : Float
+two64 = ofBits binary64 0x4000_0000_0000_0000
+
+abbrev pub half64 : Float
+half64 = ofBits binary64 0x3fe0_0000_0000_0000
+
+-- ---- one axis: start a, control b, end c; weight w, and its scale s
+abbrev pub scaleOf : Float → Float
+scaleOf w = div binary32 one (add binary32 one w)
+
+unfoldable pub lineOf : Float → Float → Float → Float → Float → Line
+lineOf a b c w s =
+    let wb = mul binary32 w b in
+    record {
+      left = mul binary32 (add binary32 a wb) s;
+      middle = mul binary32 (mul binary32 (add binary32 (add binary32 a (add binary32 wb wb)) c) s) half;
+      right = mul binary32 (add binary32 wb c) s;
+    }
+
+-- the middle through f64, narrowed once
+unfoldable pub wideMiddle : Float → Float → Float → Float → Float
+wideMiddle a b c w =
+    let scaleHalf = mul binary64 (div binary64 one64 (add binary64 one64 w)) half64 in
+    narrowOf (mul binary64 (add binary64 (add binary64 a (mul binary64 (mul binary64 w two64) b)) c) scaleHalf)
+
+-- ---- both axes
+abbrev pub plainLine : Axis → Conic → Line
+plainLine k c = lineOf (along k (c .p0)) (along k (c .p1)) (along k (c .p2)) (c .weight) (scaleOf (c .weight))
+
+abbrev pub withMiddle : Line → Float → Line
+withMiddle l m = record { left = l .left; middle = m; right = l .right }
+
+abbrev pub wideLine : Axis → Conic → Line
+wideLine k c = withMiddle (plainLine k c) (wideMiddle (along k (c .p0)) (along k (c .p1)) (along k (c .p2)) (c .weight))
+
+-- both middles through f64 where the product of the plain ones is not finite
+unfoldable pub linesOf : Conic → Lines
+linesOf c =
+    cond (finite (mul binary32 (plainLine X c .middle) (plainLine Y c .middle)))
+    (record { x = plainLine X c; y = plainLine Y c })
+    (record { x = wideLine X c; y = wideLine Y c })
+
+abbrev pub weightOf : Float → Float
+weightOf w = rootOf binary32 (add binary32 half (mul binary32 w half))
+
+-- the halves that these lines make
+unfoldable pub halvesWith : Conic → Lines → Halves
+halvesWith c l =
+    let m = pointFrom (l .x .middle) (l .y .middle) in
+    let w = weightOf (c .weight) in
+    record {
+      first = conicFrom (c .p0) (pointFrom (l .x .left) (l .y .left)) m w;
+      second = conicFrom m (pointFrom (l .x .right) (l .y .right)) (c .p2) w;
+    }
+
+unfoldable pub chopOf : Conic → Halves
+chopOf c = halvesWith c (linesOf c)
+
+-- ---- a chop by a rule
+-- which axes a rule puts in order
+abbrev pub orders : Axis → Rule → Bool
+orders X u = false
+orders Y u = true
+
+abbrev pub mendedLine : Axis → Rule → Conic → Line → Line
+mendedLine k u c l = cond (orders k u) (mendedOf u (along k (c .p0)) (along k (c .p1)) (along k (c .p2)) l) l
+
+abbrev pub mendedLines : Rule → Conic → Lines
+mendedLines u c = record { x = mendedLine X u c (linesOf c .x); y = mendedLine Y u c (linesOf c .y) }
+
+unfoldable pub chopBy : Rule → Conic → Halves
+chopBy u c = halvesWith c (mendedLines u c)

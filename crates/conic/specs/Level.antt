@@ -1,0 +1,72 @@
+-- The level choice: how far one quad would be from a conic, and how often that is quartered until it is within the tolerance. Definitions only.
+use Prim.Native.Nat.{ℕ, zero, suc}
+use mathlib.Core.Path.{_≡_}
+use mathlib.Core.Bool.{Bool, not, cond, _&&_, _||_}
+use lib.Ieee.{Float, binary32, add, sub, mul, div, lt, le, ofBits}
+use lib.Ieee.Scale.{finite}
+use Rattle.float_laws.specs.Root.{rootOf}
+use Rattle.point.specs.Point.{pointFinite}
+use Rattle.conic.specs.declared.Conic.{Conic}
+use Rattle.conic.specs.declared.Level.{Level}
+use Rattle.conic.specs.declared.Level.the-variants.{Pow2, Refused}
+use Rattle.conic.specs.declared.Refusal.{Refusal}
+use Rattle.conic.specs.declared.Refusal.the-variants.{BufferTooShort, PointNotFinite, BadTolerance}
+use Rattle.conic.specs.Chop.{one}
+use Rattle.conic.specs.Refusal.{numberOf, numberOfLevel}
+
+abbrev pub ceiling : ℕ
+ceiling = 4
+
+abbrev pub two : Float
+two = ofBits binary32 0x4000_0000
+
+abbrev pub four : Float
+four = ofBits binary32 0x4080_0000
+
+abbrev pub quarter : Float
+quarter = ofBits binary32 0x3e80_0000
+
+-- (a − 2b) + c
+abbrev pub bendOf : Float → Float → Float → Float
+bendOf a b c = add binary32 (sub binary32 a (mul binary32 two b)) c
+
+unfoldable pub errorOf : Conic → Float
+errorOf c =
+    let a = sub binary32 (c .weight) one in
+    let k = div binary32 a (mul binary32 four (add binary32 two a)) in
+    let x = mul binary32 k (bendOf (c .p0 .x) (c .p1 .x) (c .p2 .x)) in
+    let y = mul binary32 k (bendOf (c .p0 .y) (c .p1 .y) (c .p2 .y)) in
+    rootOf binary32 (add binary32 (mul binary32 x x) (mul binary32 y y))
+
+-- how often the error e is quartered until it is at most t, n times at most; a NaN never gets there
+unfoldable pub quarteringsOf : ℕ → Float → Float → ℕ
+quarteringsOf zero e t = 0
+quarteringsOf (suc n) e t = cond (le e t) 0 (suc (quarteringsOf n (mul binary32 e quarter) t))
+
+abbrev pub atLeastOne : ℕ → ℕ
+atLeastOne zero = 1
+atLeastOne (suc n) = suc n
+
+unfoldable pub levelOf : Conic → Float → ℕ
+levelOf c t = atLeastOne (quarteringsOf ceiling (errorOf c) t)
+
+abbrev pub badTolerance : Float → Bool
+badTolerance t = lt t (ofBits binary32 0) || not (finite t)
+
+abbrev pub conicFinite : Conic → Bool
+conicFinite c = (pointFinite (c .p0) && pointFinite (c .p1)) && pointFinite (c .p2)
+
+-- the first refusal that applies, 4, then 2 where a lent source is short, then 3; and else what is well
+abbrev pub refuseLevel : {A : Type 0} → Bool → Conic → Float → (Refusal → A) → A → A
+refuseLevel short c t refused well =
+    cond (badTolerance t) (refused BadTolerance)
+    (cond short (refused BufferTooShort)
+    (cond (conicFinite c) well (refused PointNotFinite)))
+
+unfoldable pub levelAnswer : Bool → Conic → Float → Level
+levelAnswer short c t = refuseLevel short c t Refused (Pow2 (levelOf c t))
+
+-- the answer, and its number in the scope document
+pub record Chosen (short : Bool) (c : Conic) (t : Float) (r : Level) : Type 0 where
+  pub answer : r ≡ levelAnswer short c t
+  pub number : numberOfLevel r ≡ refuseLevel short c t numberOf 0

@@ -1,0 +1,99 @@
+// The formulas of a chop, one axis at a time. Carried over from `path_geometry.rs` of tiny-skia-path 0.12.0.
+ghost use mathlib.Core.Path.{_≡_};
+ghost use Rattle.conic.specs.Chop.{conicFrom, pointFrom, lineOf, withMiddle, wideMiddle, linesOf, weightOf, halvesWith};
+use crate::Conic;
+use crate::Halves;
+use point::Point;
+
+// What a chop puts between a start and an end, along one axis: the first half's control, the middle, the second half's control.
+pub struct Line {
+    pub left: f32,
+    pub middle: f32,
+    pub right: f32,
+}
+
+pub struct Lines {
+    pub x: Line,
+    pub y: Line,
+}
+
+// The line from a to c, bent towards b.
+fn plain(a: f32, b: f32, c: f32, weight: f32, scale: f32) -> Line
+    ensures { λ r. ⌜ r ≡ lineOf a b c weight scale ⌝ }
+{
+    let wb = weight * b;
+    let left = (a + wb) * scale;
+    let middle = (a + (wb + wb) + c) * scale * 0.5;
+    let right = (wb + c) * scale;
+    Line {
+        left,
+        middle,
+        right,
+    }
+}
+
+// The line with its middle computed again through `f64`, and narrowed once.
+fn widened(l: Line, a: f32, b: f32, c: f32, weight: f32) -> Line
+    ensures { λ r. ⌜ r ≡ withMiddle l (wideMiddle a b c weight) ⌝ }
+{
+    let w = float_ground::widen(weight);
+    let scale_half = 1.0 / (1.0 + w) * 0.5;
+    let sum = float_ground::widen(a) + w * 2.0 * float_ground::widen(b) + float_ground::widen(c);
+    Line {
+        left: l.left,
+        middle: float_ground::narrow(sum * scale_half),
+        right: l.right,
+    }
+}
+
+// Both axes of a chop. Both middles are computed again where the point that they make is not finite.
+pub fn chopped(c: Conic) -> Lines
+    ensures { λ r. ⌜ r ≡ linesOf c ⌝ }
+{
+    let scale = 1.0 / (1.0 + c.weight);
+    let x = plain(c.p0.x, c.p1.x, c.p2.x, c.weight, scale);
+    let y = plain(c.p0.y, c.p1.y, c.p2.y, c.weight, scale);
+    let middle = Point {
+        x: x.middle,
+        y: y.middle,
+    };
+    if middle.is_finite() {
+        return Lines { x, y };
+    }
+    let x = widened(x, c.p0.x, c.p1.x, c.p2.x, c.weight);
+    let y = widened(y, c.p0.y, c.p1.y, c.p2.y, c.weight);
+    Lines { x, y }
+}
+
+// The weight of both halves.
+fn subdivide_weight_value(w: f32) -> f32
+    ensures { λ r. ⌜ r ≡ weightOf w ⌝ }
+{
+    float_ground::sqrt_f32(0.5 + w * 0.5)
+}
+
+// The conic from p0 to p2, bent towards the point at x, y.
+fn half(p0: Point, x: f32, y: f32, p2: Point, weight: f32) -> Conic
+    ensures { λ r. ⌜ r ≡ conicFrom p0 (pointFrom x y) p2 weight ⌝ }
+{
+    Conic {
+        p0,
+        p1: Point { x, y },
+        p2,
+        weight,
+    }
+}
+
+// The halves of c that these lines make.
+pub fn halves(c: Conic, l: Lines) -> Halves
+    ensures { λ r. ⌜ r ≡ halvesWith c l ⌝ }
+{
+    let weight = subdivide_weight_value(c.weight);
+    let middle = Point {
+        x: l.x.middle,
+        y: l.y.middle,
+    };
+    let first = half(c.p0, l.x.left, l.y.left, middle, weight);
+    let second = half(middle, l.x.right, l.y.right, c.p2, weight);
+    Halves { first, second }
+}

@@ -1,0 +1,156 @@
+// Conics: three points and a weight. How one is halved, and into how many quads it is cut.
+// Carried over from `path_geometry.rs` of tiny-skia-path 0.12.0; the rules, and an answer for each refusal, are added.
+ghost use mathlib.Core.Path.{_≡_};
+ghost use mathlib.Core.Bool.{false};
+ghost use lib.Dec.{ltb};
+ghost use lib.ListN.{length};
+ghost use Rattle.conic.specs.Between.{productTest, exactTest, test};
+ghost use Rattle.conic.specs.Chop.{conicFrom, chopOf, chopBy};
+ghost use Rattle.conic.specs.Level.{Chosen};
+ghost use Rattle.conic.specs.Source.{conicOf, Taken};
+use point::Point;
+
+mod chopping;
+mod leveling;
+mod mending;
+
+// A conic from p0 to p2, bent towards p1.
+pub struct Conic {
+    pub p0: Point,
+    pub p1: Point,
+    pub p2: Point,
+    pub weight: f32,
+}
+
+// What a chop makes of a conic; the halves meet in the middle.
+pub struct Halves {
+    pub first: Conic,
+    pub second: Conic,
+}
+
+// Which between test a cut goes by.
+pub enum Rule {
+    Product,
+    Exact,
+}
+
+// Why a call does nothing.
+pub enum Refusal {
+    LevelTooHigh,
+    BufferTooShort,
+    PointNotFinite,
+    BadTolerance,
+}
+
+// The conic of a lent source.
+pub enum FromPoints {
+    Made(Conic),
+    Refused(Refusal),
+}
+
+// The level at which a conic is to be cut: two to the power of it is the number of quads.
+pub enum Level {
+    Pow2(u32),
+    Refused(Refusal),
+}
+
+// The crate's test. It fails where the product overflows to the wrong side, and passes where it underflows.
+pub fn between_product(a: f32, b: f32, c: f32) -> bool
+    ensures { λ r. ⌜ r ≡ productTest a b c ⌝ }
+{
+    (a - b) * (c - b) <= 0.0
+}
+
+// Whether b lies between a and c, or equals one of them.
+pub fn between_exact(a: f32, b: f32, c: f32) -> bool
+    ensures { λ r. ⌜ r ≡ exactTest a b c ⌝ }
+{
+    ((a <= b) & (b <= c)) | ((a >= b) & (b >= c))
+}
+
+// The rule's own test.
+pub fn between(rule: Rule, a: f32, b: f32, c: f32) -> bool
+    ensures { λ r. ⌜ r ≡ test rule a b c ⌝ }
+{
+    match rule {
+        Rule::Product => between_product(a, b, c),
+        Rule::Exact => between_exact(a, b, c),
+    }
+}
+
+impl Conic {
+    // The highest level that a conic is cut at.
+    pub const MAX_CONIC_TO_QUAD_POW2: u32 = 4;
+
+    // The conic of these points and this weight.
+    pub fn new(p0: Point, p1: Point, p2: Point, weight: f32) -> Self
+        ensures { λ r. ⌜ r ≡ conicFrom p0 p1 p2 weight ⌝ }
+    {
+        Conic { p0, p1, p2, weight }
+    }
+
+    // The conic of the first six numbers, x and y of each point; refused where there are fewer.
+    pub fn from_points(src: &[f32], weight: f32) -> FromPoints
+        ensures { λ r. ⌜ Taken (now (src .entry)) weight r ⌝ }
+    {
+        if src.len() < 6 {
+            return FromPoints::Refused(Refusal::BufferTooShort);
+        }
+        let p0 = Point {
+            x: src[0],
+            y: src[1],
+        };
+        let p1 = Point {
+            x: src[2],
+            y: src[3],
+        };
+        let p2 = Point {
+            x: src[4],
+            y: src[5],
+        };
+        FromPoints::Made(Conic { p0, p1, p2, weight })
+    }
+
+    // Both halves, as the formulas give them.
+    pub fn chop(self) -> Halves
+        ensures { λ r. ⌜ r ≡ chopOf self ⌝ }
+    {
+        chopping::halves(self, chopping::chopped(self))
+    }
+
+    // Both halves, with their ys moved into order where the rule's test finds the conic's own in order.
+    pub fn chop_by(self, rule: Rule) -> Halves
+        ensures { λ r. ⌜ r ≡ chopBy rule self ⌝ }
+    {
+        let l = chopping::chopped(self);
+        let x = l.x;
+        let y = mending::mended(rule, self.p0.y, self.p1.y, self.p2.y, l.y);
+        chopping::halves(self, chopping::Lines { x, y })
+    }
+
+    // The level at which the quads are within the tolerance of the conic, from 1 to 4. Refused for a bad tolerance, and then for a point that is not finite.
+    pub fn compute_quad_pow2(self, tolerance: f32) -> Level
+        ensures { λ r. ⌜ Chosen false self tolerance r ⌝ }
+    {
+        if leveling::is_bad(tolerance) {
+            return Level::Refused(Refusal::BadTolerance);
+        }
+        if !leveling::is_finite(self) {
+            return Level::Refused(Refusal::PointNotFinite);
+        }
+        Level::Pow2(leveling::level(self, tolerance))
+    }
+
+    // The same of the conic of the first six numbers. Fewer are refused after a bad tolerance.
+    pub fn compute_quad_pow2_from(src: &[f32], weight: f32, tolerance: f32) -> Level
+        ensures { λ r. ⌜ Chosen (ltb (length (now (src .entry))) 6) (conicOf (now (src .entry)) weight) tolerance r ⌝ }
+    {
+        if leveling::is_bad(tolerance) {
+            return Level::Refused(Refusal::BadTolerance);
+        }
+        match Conic::from_points(src, weight) {
+            FromPoints::Made(c) => c.compute_quad_pow2(tolerance),
+            FromPoints::Refused(r) => Level::Refused(r),
+        }
+    }
+}

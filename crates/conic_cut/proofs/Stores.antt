@@ -1,0 +1,185 @@
+-- What the stores of a cut leave in the buffer, for any step and every level. Assumes nothing.
+use mathlib.Core.Path.{_≡_, refl, sym, ap, _∙_}
+use mathlib.Core.Bool.{Bool, true, false, cond, _&&_}
+use mathlib.Core.List.{List, [], _∷_, _++_, append-assoc}
+use Prim.Native.Nat.{ℕ, zero, suc, _+_, _-_, _*_, _/_, _^_, _≤_, _<_}
+use native.Mathlib.Nat.{two-pow-succ}
+use native.Mathlib.Numerals.{sub-one}
+use native.Mathlib.Omega.{arith}
+use lib.Pow.{pow-pos}
+use lib.ListN.{length, take, drop, replicate, getD, length-append, length-drop, length-replicate}
+use lib.Seq.{sets, drop-cons}
+use lib.Ieee.{Float, nan}
+use Rattle.point.specs.declared.Point.{Point}
+use Rattle.point.specs.Point.{pointFinite}
+use Rattle.conic.specs.declared.Conic.{Conic}
+use Rattle.conic.specs.declared.Halves.{Halves}
+use Rattle.conic_cut.specs.Cut.{cutPoints, allFinite, plain, pinned, written, flat, pointsOf}
+use Rattle.conic_cut.proofs.Lists.{sets-then, sets-amid, sets-take}
+
+-- ---- powers and lengths
+pub pow-zero : (n : ℕ) → n ≡ 0 → 2 ^ n ≡ 1
+pow-zero n h = rw h
+
+pub pow-more : (n : ℕ) → (n ≡ 0 → ⊥) → 2 ^ n ≡ 2 ^ (n - 1) + 2 ^ (n - 1)
+pow-more zero h = absurd (h refl)
+pow-more (suc n) h = rw (sub-one, two-pow-succ) (omega arith)
+
+pub flat-append : (p q : List Point) → flat (p ++ q) ≡ flat p ++ flat q
+unfolding flat
+flat-append [] q = refl
+flat-append (x ∷ p) q = ap (λ (r : List Float). x .x ∷ x .y ∷ r) (flat-append p q)
+
+pub flat-length : (ps : List Point) → length (flat ps) ≡ 2 * length ps
+unfolding flat
+flat-length [] = refl
+flat-length (p ∷ ps) = omega (arith, flat-length ps)
+
+-- the numbers of the points are read back as these points
+points-flat : (ps : List Point) → pointsOf (flat ps) ≡ ps
+unfolding flat pointsOf
+points-flat [] = refl
+points-flat (p ∷ ps) = ap (λ (l : List Point). p ∷ l) (points-flat ps)
+
+pub cut-length : (f : Conic → Halves) (n : ℕ) (c : Conic) → length (cutPoints f n c) ≡ 2 * 2 ^ n
+unfolding cutPoints
+cut-length f zero c = refl
+cut-length f (suc n) c =
+    length-append (cutPoints f n (f c .first)) (cutPoints f n (f c .second))
+    ∙ rw two-pow-succ (omega (arith, cut-length f n (f c .first), cut-length f n (f c .second)))
+
+numbers-length : (f : Conic → Halves) (n : ℕ) (c : Conic) → length (flat (cutPoints f n c)) ≡ 4 * 2 ^ n
+numbers-length f n c = omega (arith, flat-length (cutPoints f n c), cut-length f n c)
+
+-- ---- the recursion: l before, l₁ between and l₂ after
+pub stored-zero : (f : Conic → Halves) (n : ℕ) (c : Conic) (l l₁ l₂ : List Float) (at r₁ r₂ : ℕ) → n ≡ 0
+    → (r₁ ≡ at + 2) × (l₁ ≡ sets l at (flat (c .p1 ∷ []))) → (r₂ ≡ r₁ + 2) × (l₂ ≡ sets l₁ r₁ (flat (c .p2 ∷ [])))
+    → (r₂ ≡ at + 4 * 2 ^ n) × (l₂ ≡ sets l at (flat (cutPoints f n c)))
+unfolding cutPoints flat
+stored-zero f n c l l₁ l₂ at r₁ r₂ h e g = rw h (
+  omega arith,
+  g .1 ∙ ap (λ (k : List Float). sets k r₁ (flat (c .p2 ∷ []))) (e .1) ∙ sets-then (flat (c .p1 ∷ [])) (flat (c .p2 ∷ [])) l at r₁ (e .0),
+)
+
+cut-more : (f : Conic → Halves) (n : ℕ) (c : Conic) → (n ≡ 0 → ⊥)
+    → flat (cutPoints f n c) ≡ flat (cutPoints f (n - 1) (f c .first)) ++ flat (cutPoints f (n - 1) (f c .second))
+unfolding cutPoints
+cut-more f zero c h = absurd (h refl)
+cut-more f (suc n) c h = rw sub-one (flat-append (cutPoints f n (f c .first)) (cutPoints f n (f c .second)))
+
+pub stored-more : (f : Conic → Halves) (n : ℕ) (c : Conic) (h : Halves) (l l₁ l₂ : List Float) (at r₁ r₂ : ℕ) → (n ≡ 0 → ⊥) → h ≡ f c
+    → (r₁ ≡ at + 4 * 2 ^ (n - 1)) × (l₁ ≡ sets l at (flat (cutPoints f (n - 1) (h .first))))
+    → (r₂ ≡ r₁ + 4 * 2 ^ (n - 1)) × (l₂ ≡ sets l₁ r₁ (flat (cutPoints f (n - 1) (h .second))))
+    → (r₂ ≡ at + 4 * 2 ^ n) × (l₂ ≡ sets l at (flat (cutPoints f n c)))
+stored-more f n c h l l₁ l₂ at r₁ r₂ nz hh e g =
+    let a = flat (cutPoints f (n - 1) (h .first)) in
+    let b = flat (cutPoints f (n - 1) (h .second)) in (
+      omega (arith, pow-more n nz),
+      g .1 ∙ ap (λ (k : List Float). sets k r₁ b) (e .1)
+          ∙ sets-then a b l at r₁ (omega (arith, numbers-length f (n - 1) (h .first)))
+          ∙ ap (sets l at) (ap (λ (k : Halves). flat (cutPoints f (n - 1) (k .first)) ++ flat (cutPoints f (n - 1) (k .second))) hh ∙ sym (cut-more f n c nz)),
+    )
+
+-- ---- the same point stored n times
+pub pin-more : (p : Point) (n i next : ℕ) (l l₁ : List Float) → i < n → l₁ ≡ sets l next (flat (p ∷ []))
+    → sets l₁ (next + 2) (flat (replicate (n - (i + 1)) p)) ≡ sets l next (flat (replicate (n - i) p))
+unfolding flat
+pin-more p n i next l l₁ h e =
+    let k = n - (i + 1) in
+    let f : n - i ≡ suc k = omega arith in
+    ap (λ (z : List Float). sets z (next + 2) (flat (replicate k p))) e
+    ∙ sets-then (flat (p ∷ [])) (flat (replicate k p)) l next (next + 2) refl
+    ∙ ap (λ (m : ℕ). sets l next (flat (replicate m p))) (sym f)
+
+pub pin-done : (p : Point) (n i next : ℕ) (l : List Float) → n ≤ i → sets l next (flat (replicate (n - i) p)) ≡ l
+unfolding flat
+pin-done p n i next l h = let e : n - i ≡ 0 = omega arith in rw e
+
+-- ---- the finite test over the numbers from i on
+pub all-more : (s : List Float) (i : ℕ) → i + 1 < length s
+    → allFinite (pointsOf (drop i s)) ≡ (pointFinite (record { x = getD s i nan; y = getD s (i + 1) nan }) && allFinite (pointsOf (drop (i + 2) s)))
+unfolding allFinite pointsOf
+all-more s i h =
+    let a : i < length s = omega arith in
+    let b : suc i < length s = omega arith in
+    let c : i + 1 ≡ suc i = omega arith in
+    let d : i + 2 ≡ suc (suc i) = omega arith in
+    rw (c, d, drop-cons s i nan a, drop-cons s (suc i) nan b)
+
+short : (l : List Float) → length l ≤ 1 → allFinite (pointsOf l) ≡ true
+unfolding allFinite pointsOf
+short [] h = refl
+short (x ∷ []) h = refl
+short (x ∷ y ∷ l) h = absurd (omega arith)
+
+pub all-end : (s : List Float) (i : ℕ) → length s ≤ i + 1 → allFinite (pointsOf (drop i s)) ≡ true
+all-end s i h = short (drop i s) (simp length-drop (omega arith))
+
+-- ---- the points between the first and the last
+unfoldable pub inner : (Conic → Halves) → ℕ → Conic → List Point
+inner f zero c = c .p1 ∷ []
+inner f (suc n) c = cutPoints f n (f c .first) ++ inner f n (f c .second)
+
+abbrev pub KeepsEnd : (Conic → Halves) → Type 0
+KeepsEnd f = (c : Conic) → f c .second .p2 ≡ c .p2
+
+pub cut-split : (f : Conic → Halves) → KeepsEnd f → (n : ℕ) (c : Conic) → cutPoints f n c ≡ inner f n c ++ (c .p2 ∷ [])
+unfolding cutPoints inner
+cut-split f end zero c = refl
+cut-split f end (suc n) c =
+    ap (λ (l : List Point). cutPoints f n (f c .first) ++ l) (cut-split f end n (f c .second) ∙ ap (λ (p : Point). inner f n (f c .second) ++ (p ∷ [])) (end c))
+    ∙ sym (append-assoc (cutPoints f n (f c .first)) (inner f n (f c .second)) (c .p2 ∷ []))
+
+inner-length : (f : Conic → Halves) → KeepsEnd f → (n : ℕ) (c : Conic) → length (inner f n c) ≡ 2 * 2 ^ n - 1
+inner-length f end n c = omega (arith, cut-length f n c, ap length (cut-split f end n c), length-append (inner f n c) (c .p2 ∷ []))
+
+-- points stored over those after the first
+stored-over : (p : Point) (a b t : List Point) (l : List Float) (r : ℕ) → r ≡ 0 + 2 → length a ≡ length b → sets (sets l 0 (flat (p ∷ (a ++ t)))) r (flat b) ≡ sets l 0 (flat (p ∷ (b ++ t)))
+unfolding flat
+stored-over p a b t l r e h =
+    let put : List Float → List Float = λ q. sets l 0 (p .x ∷ p .y ∷ q) in
+    ap (λ (q : List Float). sets (put q) r (flat b)) (flat-append a t)
+    ∙ sets-amid (p .x ∷ p .y ∷ []) (flat a) (flat b) (flat t) l 0 r e (omega (arith, flat-length a, flat-length b))
+    ∙ ap put (sym (flat-append b t))
+
+-- ---- the whole cut: l before, l₁ with the first point, l₂ with all of them
+module _ (f : Conic → Halves) (n : ℕ) (c : Conic) (l l₁ l₂ : List Float) (r₁ r₂ : ℕ)
+    (put : (r₁ ≡ 0 + 2) × (l₁ ≡ sets l 0 (flat (c .p0 ∷ []))))
+    (cut : (r₂ ≡ r₁ + 4 * 2 ^ n) × (l₂ ≡ sets l₁ r₁ (flat (cutPoints f n c))))
+    (fits : 2 + 4 * 2 ^ n ≤ length l) where
+  all-stored : l₂ ≡ sets l 0 (flat (plain f n c))
+  unfolding flat
+  all-stored =
+      cut .1 ∙ ap (λ (k : List Float). sets k r₁ (flat (cutPoints f n c))) (put .1)
+      ∙ sets-then (flat (c .p0 ∷ [])) (flat (cutPoints f n c)) l 0 r₁ (put .0)
+
+  -- the test reads what was stored
+  tested : allFinite (pointsOf (take r₂ l₂)) ≡ allFinite (plain f n c)
+  tested =
+      let ps = plain f n c in
+      let there : take r₂ l₂ ≡ flat ps = ap (take r₂) all-stored ∙ sets-take (flat ps) l r₂ (omega (arith, flat-length ps, cut-length f n c)) (omega arith) in
+      ap allFinite (ap pointsOf there ∙ points-flat ps)
+
+  pub stored-fine : (b : Bool) → b ≡ allFinite (pointsOf (take r₂ l₂)) → b ≡ true → l₂ ≡ sets l 0 (flat (written f n c))
+  unfolding written
+  stored-fine b g t = all-stored ∙ rw (← tested, ← g, t)
+
+  pub stored-pinned : KeepsEnd f → (l₃ : List Float) (b : Bool) → b ≡ allFinite (pointsOf (take r₂ l₂)) → b ≡ false
+      → l₃ ≡ sets l₂ r₁ (flat (replicate (r₂ / 2 - 2) (c .p1))) → l₃ ≡ sets l 0 (flat (written f n c))
+  unfolding written pinned
+  stored-pinned end l₃ b g t h =
+      let many : r₂ / 2 - 2 ≡ 2 * 2 ^ n - 1 = omega (arith, pow-pos n) in
+      let pins = replicate (2 * 2 ^ n - 1) (c .p1) in
+      h ∙ rw (many, all-stored, ← tested, ← g, t, cut-split f end n c)
+      (stored-over (c .p0) (inner f n c) pins (c .p2 ∷ []) l r₁ (put .0) (inner-length f end n c ∙ sym (length-replicate (2 * 2 ^ n - 1) (c .p1))))
+
+either-length : (b : Bool) (p q : List Point) (k : ℕ) → length p ≡ k → length q ≡ k → length (cond b p q) ≡ k
+either-length true p q k e g = e
+either-length false p q k e g = g
+
+pub written-length : (f : Conic → Halves) (n : ℕ) (c : Conic) → length (written f n c) ≡ 2 * 2 ^ n + 1
+unfolding written pinned
+written-length f n c =
+    let pins = replicate (2 * 2 ^ n - 1) (c .p1) in
+    either-length (allFinite (plain f n c)) (plain f n c) (pinned n c) (2 * 2 ^ n + 1) (omega (arith, cut-length f n c))
+    (omega (arith, pow-pos n, length-append pins (c .p2 ∷ []), length-replicate (2 * 2 ^ n - 1) (c .p1)))

@@ -1,0 +1,63 @@
+-- `chop_into_quads_pow2_from` meets its contract: each answer by the tests that led to it. Assumes nothing.
+use mathlib.Core.Bool.{or-true}
+use mathlib.Core.Path.{_∙_, ap, sym}
+use borrow.Author.Needs.{needs}
+use lib.ListN.{length}
+use lib.Dec.{ltb}
+use Rattle.conic_cut.specs.declared.Cut.the-variants.{Refused}
+use Rattle.conic_cut.proofs.Answers.{too-deep, too-short, cut-into}
+use Rattle.conic.proofs.Sources.{was-made, was-refused}
+use Rattle.conic.specs.Chop.{chopBy}
+use Rattle.conic.specs.Source.{conicOf}
+use Rattle.conic_cut.proofs.chop_into_quads_pow2_from.Statement.{statement}
+use Rattle.conic_cut.proofs.chop_into_quads_pow2_from.Tie as tie
+
+returns : tie.Need-returns
+returns c =
+    let a = c .before .before .before .args in
+    too-deep (chopBy (a .rule)) (a .level) (conicOf (a .src .now) (a .weight)) (ltb (length (a .src .now)) 6) (a .out .now) (c .if1 .taken)
+
+from-points-requires : tie.Need-from-points-requires
+from-points-requires c κs = search needs
+
+enum-known-c : tie.Need-enum-known-c
+enum-known-c c = search needs
+
+chop-into-quads-pow2-requires : tie.Need-chop-into-quads-pow2-requires
+chop-into-quads-pow2-requires c κs = search needs
+
+enum-known-r : tie.Need-enum-known-r
+enum-known-r c = search needs
+
+same-length : tie.Need-same-length
+same-length c = search needs
+
+returns-2 : tie.Need-returns-2
+returns-2 c =
+    let a = c .before .before .before .before .before .before .before .before .before .before .before .args in
+    let read = c .before .before .before .before .before .before .before .from-points in
+    let told = was-made (a .src .now) (a .weight) (c .before .before .before .before .before .c .given .0 .0) (sym (read .ensures .answer) ∙ c .before .before .before .before .before .c .given .1) in
+    let done = c .before .before .chop-into-quads-pow2 .ensures .0 in
+    let answer = done .answer in
+    let buffer = done .buffer in
+    cut-into (rw (told .0) answer) (rw (told .0, ← told .1) buffer)
+
+returns-3 : tie.Need-returns-3
+returns-3 c =
+    let a = c .before .before .before .before .before .before .before .args in
+    let told = was-refused (a .src .now) (a .weight) (c .before .r .given .0 .0) (sym (c .before .before .before .from-points .ensures .answer) ∙ c .before .r .given .1) in
+    let short = too-short (chopBy (a .rule)) (a .level) (conicOf (a .src .now) (a .weight)) (ltb (length (a .src .now)) 6) (a .out .now) (c .before .before .before .before .if1 .left) (rw (told .0, or-true)) in
+    cut-into (ap Refused (told .1) ∙ short .answer) (short .buffer)
+
+pub chop-into-quads-pow2-from-spec : {M : Type 1} → statement M
+chop-into-quads-pow2-from-spec =
+    tie.close
+    (tie.spec
+    returns
+    from-points-requires
+    enum-known-c
+    chop-into-quads-pow2-requires
+    enum-known-r
+    same-length
+    returns-2
+    returns-3)

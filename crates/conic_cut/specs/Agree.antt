@@ -1,0 +1,15 @@
+-- Where two rules answer every question of a cut alike. Definitions only.
+use Prim.Native.Nat.{ℕ, zero, suc}
+use Rattle.conic.specs.declared.Conic.{Conic}
+use Rattle.conic.specs.declared.Halves.{Halves}
+use Rattle.conic.specs.declared.Rule.{Rule}
+use Rattle.conic.specs.Agree.{ChopAlike}
+use Rattle.conic.specs.Chop.{chopBy}
+
+-- P holds of every conic that a cut by the step f takes apart
+unfoldable pub Throughout : (Conic → Type 0) → (Conic → Halves) → ℕ → Conic → Type 0
+Throughout P f zero c = Unit {0}
+Throughout P f (suc n) c = P c × (Throughout P f n (f c .first) × Throughout P f n (f c .second))
+
+abbrev pub CutAlike : Rule → Rule → ℕ → Conic → Type 0
+CutAlike u v n c = Throughout (ChopAlike u v) (chopBy u) n c

@@ -1,0 +1,5 @@
+pub mod Agree
+pub mod Auto
+pub mod Cut
+pub mod Examples
+pub mod Order

@@ -1,0 +1,73 @@
+-- What it is for points to run one way along an axis, and demand 3 of a cut. Definitions only.
+use Prim.Native.Nat.{ℕ, _+_, _*_, _^_, _≤_}
+use mathlib.Core.Path.{_≡_}
+use mathlib.Core.Bool.{Bool}
+use mathlib.Core.List.{List, [], _∷_, _++_}
+use mathlib.Core.Logic.{_⊎_}
+use lib.Dec.{T}
+use lib.ListN.{length, drop}
+use lib.Ieee.{Float, le}
+use lib.Ieee.Scale.{finite}
+use Rattle.point.specs.declared.Point.{Point}
+use Rattle.conic.specs.declared.Conic.{Conic}
+use Rattle.conic.specs.declared.Rule.{Rule}
+use Rattle.conic.specs.declared.Rule.the-variants.{Exact}
+use Rattle.conic.specs.Between.{exactTest}
+use Rattle.conic.specs.Chop.{Axis, Y, along}
+use Rattle.conic.specs.Level.{ceiling}
+use Rattle.conic_cut.specs.Cut.{flat, room}
+
+-- along k each point stands to the next as R says
+unfoldable pub Steps : (Float → Float → Bool) → Axis → List Point → Type 0
+Steps R k [] = Unit {0}
+Steps R k (p ∷ []) = Unit {0}
+Steps R k (p ∷ q ∷ l) = T (R (along k p) (along k q)) × Steps R k (q ∷ l)
+
+abbrev pub ge : Float → Float → Bool
+ge x y = le y x
+
+-- along k the points only rise, or only fall; ties are allowed, and a zero's sign is not seen
+abbrev pub OneWay : Axis → List Point → Type 0
+OneWay k ps = Steps le k ps ⊎ Steps ge k ps
+
+-- finite in each coordinate
+abbrev pub Finite : Point → Type 0
+Finite p = (k : Axis) → T (finite (along k p))
+
+unfoldable pub AllFinite : List Point → Type 0
+AllFinite [] = Unit {0}
+AllFinite (p ∷ l) = Finite p × AllFinite l
+
+-- the first and the last of the points, or s where there is none
+unfoldable pub firstOf : Point → List Point → Point
+firstOf s [] = s
+firstOf s (p ∷ l) = p
+
+unfoldable pub lastOf : Point → List Point → Point
+lastOf s [] = s
+lastOf s (p ∷ l) = lastOf p l
+
+-- three finite points, along k the middle one between the ends or level with one; the weight may be anything
+pub record Bridge (k : Axis) (c : Conic) : Type 0 where
+  pub start : Finite (c .p0)
+  pub middle : Finite (c .p1)
+  pub end : Finite (c .p2)
+  pub between : T (exactTest (along k (c .p0)) (along k (c .p1)) (along k (c .p2)))
+
+-- the points lead from the conic's start to its end, all finite, and along k they don't turn back
+pub record InOrder (k : Axis) (c : Conic) (ps : List Point) : Type 0 where
+  pub one-way : OneWay k ps
+  pub all-finite : AllFinite ps
+  pub first : firstOf (c .p0) ps ≡ c .p0
+  pub last : lastOf (c .p0) ps ≡ c .p2
+
+-- a buffer, l at entry and l₁ at exit, holds such points as a cut at the level n has, and after them what it held
+pub record OrderedCut (k : Axis) (n : ℕ) (c : Conic) (l l₁ : List Float) : Type 0 where
+  pub points : List Point
+  pub count : length points ≡ 2 * 2 ^ n + 1
+  pub stored : l₁ ≡ flat points ++ drop (room n) l
+  pub in-order : InOrder k c points
+
+-- demand 3
+abbrev pub OrderKept : Rule → ℕ → Conic → List Float → List Float → Type 0
+OrderKept u n c l l₁ = u ≡ Exact → n ≤ ceiling → room n ≤ length l → Bridge Y c → OrderedCut Y n c l l₁

@@ -1,0 +1,89 @@
+// The cut itself, once there is room for it. Carried over from `path_geometry.rs` of tiny-skia-path 0.12.0.
+ghost use mathlib.Core.Path.{_≡_};
+ghost use mathlib.Core.List.{[], _∷_};
+ghost use Prim.Native.Nat.{_+_, _*_, _^_, _≤_};
+ghost use lib.ListN.{length, replicate};
+ghost use lib.Seq.{sets};
+ghost use Rattle.conic.specs.Chop.{chopBy};
+ghost use Rattle.conic_cut.specs.Cut.{flat, pointsOf, allFinite, cutPoints, written};
+use conic::Conic;
+use conic::Rule;
+use point::Point;
+
+// 2 to the level.
+pub fn quads(level: u32) -> usize
+    requires { ⌜ level ≤ 6 ⌝ }
+    ensures { λ r. ⌜ r ≡ 2 ^ level ⌝ }
+{
+    1usize << level
+}
+
+// Stores p at `at`, and answers the next place.
+fn put(out: &mut [f32], at: usize, p: Point) -> usize
+    requires { ⌜ at + 2 ≤ length (now out) ⌝ }
+    ensures { λ r. ⌜ (r ≡ at + 2) × (now (out .exit) ≡ sets (now (out .entry)) at (flat (p ∷ []))) ⌝ }
+{
+    out[at] = p.x;
+    let next = at + 1;
+    out[next] = p.y;
+    next + 1
+}
+
+// Stores all the points of the cut but the first from `at` on, and answers the next place.
+fn subdivide(out: &mut [f32], at: usize, rule: Rule, c: Conic, level: u32) -> usize
+    requires { ⌜ at + 4 * 2 ^ level ≤ length (now out) ⌝ }
+    ensures { λ r. ⌜ (r ≡ at + 4 * 2 ^ level) × (now (out .exit) ≡ sets (now (out .entry)) at (flat (cutPoints (chopBy rule) level c))) ⌝ }
+{
+    if level == 0 {
+        let next = put(out, at, c.p1);
+        return put(out, next, c.p2);
+    }
+    let h = c.chop_by(rule);
+    let less = level - 1;
+    let next = subdivide(out, at, rule, h.first, less);
+    subdivide(out, next, rule, h.second, less)
+}
+
+// Whether each point of s, two numbers a point, passes the crate's finite test.
+fn all_finite(s: &[f32]) -> bool
+    ensures { λ r. ⌜ r ≡ allFinite (pointsOf (now (s .entry))) ⌝ }
+{
+    let mut ok = true;
+    let mut i = 0;
+    while i + 1 < s.len() {
+        let p = Point {
+            x: s[i],
+            y: s[i + 1],
+        };
+        ok = ok & p.is_finite();
+        i += 2;
+    }
+    ok
+}
+
+// Stores p, n times, from `at` on.
+fn pin(out: &mut [f32], at: usize, p: Point, n: usize)
+    requires { ⌜ at + 2 * n ≤ length (now out) ⌝ }
+    ensures { λ _. ⌜ now (out .exit) ≡ sets (now (out .entry)) at (flat (replicate n p)) ⌝ }
+{
+    let mut i = 0;
+    let mut next = at;
+    while i < n {
+        next = put(out, next, p);
+        i += 1;
+    }
+}
+
+// Stores all the points of the cut. Where one is not finite, all but the first and the last become c's middle point.
+pub fn store(out: &mut [f32], rule: Rule, c: Conic, level: u32)
+    requires { ⌜ 2 + 4 * 2 ^ level ≤ length (now out) ⌝ }
+    ensures { λ _. ⌜ now (out .exit) ≡ sets (now (out .entry)) 0 (flat (written (chopBy rule) level c)) ⌝ }
+{
+    let at = put(out, 0, c.p0);
+    let end = subdivide(out, at, rule, c, level);
+    if all_finite(&out[..end]) {
+        return;
+    }
+    let interior = end / 2 - 2;
+    pin(out, at, c.p1, interior);
+}

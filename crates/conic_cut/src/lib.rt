@@ -1,0 +1,81 @@
+// Conics cut into quads. By the exact rule the cut never turns back: the second clause of `chop_into_quads_pow2`'s contract.
+// Carried over from `path_geometry.rs` of tiny-skia-path 0.12.0; the rule, and an answer for each refusal, are added.
+ghost use mathlib.Core.Bool.{false};
+ghost use lib.Dec.{ltb};
+ghost use lib.ListN.{length};
+ghost use Rattle.conic.specs.Chop.{conicFrom, chopBy};
+ghost use Rattle.conic.specs.Source.{conicOf};
+ghost use Rattle.conic_cut.specs.Auto.{Computed};
+ghost use Rattle.conic_cut.specs.Cut.{CutInto};
+ghost use Rattle.conic_cut.specs.Order.{OrderKept};
+use conic::Conic;
+use conic::FromPoints;
+use conic::Level;
+use conic::Refusal;
+use conic::Rule;
+use point::Point;
+
+mod cutting;
+
+// How many quads were written.
+pub enum Cut {
+    Quads(usize),
+    Refused(Refusal),
+}
+
+// Cuts c into 2^level quads, which share their ends: x and y of each point, from the start of `out` on.
+// A level above 4 is refused, and then room for fewer than 2^level * 2 + 1 points; `out` is untouched.
+pub fn chop_into_quads_pow2(out: &mut [f32], rule: Rule, c: Conic, level: u32) -> Cut
+    ensures { λ r. ⌜ CutInto (chopBy rule) level c false (now (out .entry)) r (now (out .exit)) ⌝ }
+    ensures order { λ _. ⌜ OrderKept rule level c (now (out .entry)) (now (out .exit)) ⌝ }
+{
+    if Conic::MAX_CONIC_TO_QUAD_POW2 < level {
+        return Cut::Refused(Refusal::LevelTooHigh);
+    }
+    let quads = cutting::quads(level);
+    if out.len() < 4 * quads + 2 {
+        return Cut::Refused(Refusal::BufferTooShort);
+    }
+    cutting::store(out, rule, c, level);
+    Cut::Quads(quads)
+}
+
+// The same of the conic of the first six numbers of `src`.
+pub fn chop_into_quads_pow2_from(
+    out: &mut [f32],
+    rule: Rule,
+    src: &[f32],
+    weight: f32,
+    level: u32,
+) -> Cut
+    ensures { λ r. ⌜ CutInto (chopBy rule) level (conicOf (now (src .entry)) weight) (ltb (length (now (src .entry))) 6) (now (out .entry)) r (now (out .exit)) ⌝ }
+{
+    if Conic::MAX_CONIC_TO_QUAD_POW2 < level {
+        return Cut::Refused(Refusal::LevelTooHigh);
+    }
+    match Conic::from_points(src, weight) {
+        FromPoints::Made(c) => chop_into_quads_pow2(out, rule, c, level),
+        FromPoints::Refused(r) => Cut::Refused(r),
+    }
+}
+
+// A cut at the level that a tolerance of a quarter chooses: 64 places for points, zero where none is written.
+pub struct AutoConicToQuads {
+    pub points: [f32; 128],
+    pub answer: Cut,
+}
+
+impl AutoConicToQuads {
+    // The crate's cut, by the product rule.
+    pub fn compute(p0: Point, p1: Point, p2: Point, weight: f32) -> Self
+        ensures { λ r. ⌜ Computed (conicFrom p0 p1 p2 weight) r ⌝ }
+    {
+        let c = Conic::new(p0, p1, p2, weight);
+        let mut points = [0.0f32; 128];
+        let answer = match c.compute_quad_pow2(0.25) {
+            Level::Pow2(level) => chop_into_quads_pow2(&mut points, Rule::Product, c, level),
+            Level::Refused(r) => Cut::Refused(r),
+        };
+        AutoConicToQuads { points, answer }
+    }
+}

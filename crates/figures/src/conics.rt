@@ -1,0 +1,101 @@
+// The figures of conics.
+use super::print;
+use conic::Conic;
+use conic::Level;
+use conic::Refusal;
+use conic::Rule;
+use conic_cut::Cut;
+
+// x and y of each point: one bend, and one whose ys turn back.
+const BEND: [f32; 6] = [0.0, 0.0, 4.0, 0.0, 4.0, 4.0];
+
+const BACK: [f32; 6] = [0.0, 0.0, 0.0, 8.0, 0.0, 0.0];
+
+fn refusal(r: Refusal) {
+    let number = match r {
+        Refusal::LevelTooHigh => 1,
+        Refusal::BufferTooShort => 2,
+        Refusal::PointNotFinite => 3,
+        Refusal::BadTolerance => 4,
+    };
+    print::text(b" refusal");
+    print::count(number);
+}
+
+fn yes(is: bool) {
+    if is {
+        print::text(b" yes");
+    } else {
+        print::text(b" no");
+    }
+}
+
+fn between(name: &[u8], a: f32, b: f32, c: f32) {
+    print::text(name);
+    print::text(b" product");
+    yes(conic::between_product(a, b, c));
+    print::text(b", exact");
+    yes(conic::between_exact(a, b, c));
+    print::end();
+}
+
+// The level of the conic of weight 0 whose ys are 0, y, 0 and xs 0.
+fn level(name: &[u8], y: f32, tolerance: f32) {
+    print::text(name);
+    match Conic::compute_quad_pow2_from(&[0.0, 0.0, 0.0, y, 0.0, 0.0], 0.0, tolerance) {
+        Level::Pow2(n) => print::count(n as u64),
+        Level::Refused(r) => refusal(r),
+    }
+    print::end();
+}
+
+fn numbers(s: &[f32]) {
+    let mut i = 0;
+    while i < s.len() {
+        print::number(s[i]);
+        i += 1;
+    }
+}
+
+// The number of quads, and what `out` then holds.
+fn cut(name: &[u8], out: &mut [f32], rule: Rule, src: &[f32], weight: f32, level: u32) {
+    print::text(name);
+    match conic_cut::chop_into_quads_pow2_from(out, rule, src, weight, level) {
+        Cut::Quads(n) => {
+            print::count(n as u64);
+            numbers(out);
+        }
+        Cut::Refused(r) => refusal(r),
+    }
+    print::end();
+}
+
+// The product rule's cut of the bend of weight 1.
+fn bend(name: &[u8], out: &mut [f32], level: u32) {
+    cut(name, out, Rule::Product, &BEND, 1.0, level);
+}
+
+fn cuts() {
+    let mut six = [0.0f32; 6];
+    bend(b"weight 1, level 0:", &mut six, 0);
+    let mut nine = [0.0f32; 9];
+    bend(b"nine numbers of room:", &mut nine, 1);
+    let mut ten = [0.0f32; 10];
+    bend(b"weight 1, level 1:", &mut ten, 1);
+    bend(b"level 5:", &mut ten, 5);
+    let nan = 0.0 / 0.0;
+    cut(b"NaN weight:", &mut ten, Rule::Exact, &BEND, nan, 1);
+    cut(b"ys 0, 8, 0:", &mut ten, Rule::Exact, &BACK, 1.0, 1);
+}
+
+pub fn show() {
+    let low = 7.8886090522101180541e-31;
+    between(b"between 0, 2^-100, 0:", 0.0, low, 0.0);
+    let high = 1.7014118346046923173e38;
+    between(b"between -2^127, 2^127, 2^127:", -high, high, high);
+    level(b"level of 0, 8, 0 at 0.25:", 8.0, 0.25);
+    level(b"level of 0, 8, 0 at 4:", 8.0, 4.0);
+    level(b"level of 0, 128, 0 at 0.25:", 128.0, 0.25);
+    level(b"level of 0, 1024, 0 at 0.25:", 1024.0, 0.25);
+    cuts();
+}

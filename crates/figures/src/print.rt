@@ -1,0 +1,32 @@
+// A line of the figures: a text, then numbers. A float is written as the eight hexadecimal digits of its pattern.
+use libc::STDOUT_FILENO;
+
+// Writes a text.
+pub fn text(t: &[u8]) {
+    io::write_all(STDOUT_FILENO, t);
+}
+
+// x's pattern; every NaN's is written as 7fc00000.
+fn pattern(x: f32) -> u64 {
+    if x != x {
+        return 0x7fc0_0000;
+    }
+    f32::to_bits(x) as u64
+}
+
+// Writes a space and x's pattern.
+pub fn number(x: f32) {
+    text(b" ");
+    io::print_hex(STDOUT_FILENO, pattern(x), 8);
+}
+
+// Writes a space and n in decimal.
+pub fn count(n: u64) {
+    text(b" ");
+    io::print_decimal(STDOUT_FILENO, n);
+}
+
+// Ends the line.
+pub fn end() {
+    text(b"\n");
+}

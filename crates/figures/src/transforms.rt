@@ -1,0 +1,80 @@
+// The figures of the transforms.
+use super::print;
+use mapping::Mapping;
+use point::Point;
+use transform::Inversion;
+use transform::Transform;
+
+fn six(ts: Transform) {
+    print::number(ts.sx);
+    print::number(ts.ky);
+    print::number(ts.kx);
+    print::number(ts.sy);
+    print::number(ts.tx);
+    print::number(ts.ty);
+}
+
+fn mapped(name: &[u8], ts: Transform, p: Point) {
+    let q = ts.map_point(p);
+    print::text(name);
+    print::number(q.x);
+    print::number(q.y);
+    print::end();
+}
+
+// The answer's number, then the buffer.
+fn mapped_numbers(name: &[u8], ts: Transform, x: f32, y: f32) {
+    let mut numbers = [x, y];
+    print::text(name);
+    match mapping::map_numbers(ts, &mut numbers) {
+        Mapping::Mapped => print::count(0),
+        Mapping::OddLength => print::count(9),
+    }
+    print::number(numbers[0]);
+    print::number(numbers[1]);
+    print::end();
+}
+
+// The answer's number, then the six numbers of the inverse in the order of `from_row`.
+fn inverted(name: &[u8], ts: Transform) {
+    print::text(name);
+    match ts.invert() {
+        Inversion::Inverted(inverse) => {
+            print::count(0);
+            six(inverse);
+        }
+        Inversion::NearlySingular => print::count(6),
+        Inversion::NotFinite => print::count(7),
+    }
+    print::end();
+}
+
+pub fn show() {
+    mapped(
+        b"from_row(1,2,3,4,5,6) maps (1,1) to:",
+        Transform::from_row(1.0, 2.0, 3.0, 4.0, 5.0, 6.0),
+        Point::from_xy(1.0, 1.0),
+    );
+    mapped_numbers(
+        b"the same in a buffer of numbers:",
+        Transform::from_row(1.0, 2.0, 3.0, 4.0, 5.0, 6.0),
+        1.0,
+        1.0,
+    );
+    inverted(
+        b"from_row(2,0,0,4,6,8) inverted:",
+        Transform::from_row(2.0, 0.0, 0.0, 4.0, 6.0, 8.0),
+    );
+    inverted(
+        b"from_row(1,1,1,1,0,0) inverted:",
+        Transform::from_row(1.0, 1.0, 1.0, 1.0, 0.0, 0.0),
+    );
+    inverted(
+        b"from_row(0,0.5,0.5,0,2^127,0) inverted:",
+        Transform::from_row(0.0, 0.5, 0.5, 0.0, 1.7014118346046923e38, 0.0),
+    );
+    inverted(
+        b"from_scale(0,1) inverted:",
+        Transform::from_scale(0.0, 1.0),
+    );
+}

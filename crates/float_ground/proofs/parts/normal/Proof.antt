@@ -1,0 +1,60 @@
+-- `float_ground::parts::normal` meets its contract: `shift` says what the leading zeros give. Assumes nothing.
+use borrow.Author.Needs.{needs}
+use mathlib.Core.Path.{_≡_, refl, sym, ap, _∙_}
+use Prim.Native.Nat.{ℕ, _+_, _-_, _*_, _%_, _^_, _≤_}
+use native.Mathlib.Nat.{lt-of-lt-of-le, mod-eq-of-lt, mul-assoc, add-comm, sub-add-cancel}
+use native.Mathlib.Omega.{arith}
+use lib.Dec.{lit≤}
+use lib.Pow.{pow-add}
+use lib.Count.{leadingZeros}
+use Rattle.float_ground.proofs.Apart.{Shift, shift}
+use Rattle.float_ground.proofs.parts.normal.Statement.{statement}
+use Rattle.float_ground.proofs.parts.normal.Tie as tie
+
+module _ (c : tie.Start) where
+  of-m : (9 ≤ leadingZeros 64 (c .args .m)) × Shift (c .args .m) (leadingZeros 64 (c .args .m) - 9)
+  of-m = shift (c .args .m) (c .pre .0) (c .pre .1 .0)
+
+  abbrev z : ℕ
+  z = leadingZeros 64 (c .args .m) - 9
+
+  few : z ≤ 54
+  few = of-m .1 .most
+
+  plain : c .args .m * 2 ^ z % 2 ^ 64 ≡ c .args .m * 2 ^ z
+  plain = mod-eq-of-lt (lt-of-lt-of-le (of-m .1 .under) (lit≤ tt))
+
+sub-z : tie.Need-sub-z
+sub-z c = of-m c .0
+
+cast-z : tie.Need-cast-z
+cast-z c = omega (arith, few c)
+
+add-t8 : tie.Need-add-t8
+add-t8 c = search needs
+
+sub-t9 : tie.Need-sub-t9
+sub-t9 c = omega (arith, few c)
+
+shl-t10 : tie.Need-shl-t10
+shl-t10 c = omega (arith, few c)
+
+back : (m z e : ℕ) → z ≤ e → m * 2 ^ z * 2 ^ (e - z) ≡ m * 2 ^ e
+back m z e h = mul-assoc m (2 ^ z) (2 ^ (e - z)) ∙ ap (λ (y : ℕ). m * y) (sym (pow-add 2 z (e - z)) ∙ ap (λ (y : ℕ). 2 ^ y) (add-comm z (e - z) ∙ sub-add-cancel h))
+
+returns : tie.Need-returns
+returns c =
+    let S = of-m c .1 in
+    let p = plain c in
+    let e = c .args .j + c .args .lowest in
+    let le : z c ≤ e = omega (arith, few c) in
+    record {
+      tidy = record { at-least = rw p (S .at-least); under = rw p (S .under); room = omega arith };
+      sign = refl;
+      value = rw p (back (c .args .m) (z c) e le);
+      least = omega (arith, few c);
+      clear = λ q Q h. rw p (S .clear q Q h);
+    }
+
+pub normal-spec : {M : Type 1} → statement M
+normal-spec = tie.close (tie.spec sub-z cast-z add-t8 sub-t9 shl-t10 returns)

@@ -1,0 +1,10 @@
+pub mod Narrowed
+pub mod NearRoot
+pub mod Order
+pub mod Patterns
+pub mod RootFunction
+pub mod RootMeaning
+pub mod Rounding
+pub mod Sides
+pub mod Sign
+pub mod Values

@@ -1,0 +1,3 @@
+pub mod Absolute
+pub mod Narrow
+pub mod Root

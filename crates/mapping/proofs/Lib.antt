@@ -1,0 +1,4 @@
+pub mod Agree
+pub mod InPlace
+pub mod Pairs
+pub mod Upto

@@ -1,0 +1,56 @@
+// The float ground's calls.
+ghost use mathlib.Core.Path.{_≡_};
+ghost use lib.Ieee.{binary32, binary64};
+ghost use lib.Ieee.Scale.{finite};
+ghost use Rattle.float_laws.specs.Absolute.{absOf};
+ghost use Rattle.float_laws.specs.Narrow.{narrowOf};
+ghost use Rattle.float_laws.specs.Root.{rootOf};
+
+#[no_mangle]
+pub extern "C" fn nz_is_finite_f32(x: f32) -> bool
+    ensures { λ r. ⌜ r ≡ finite x ⌝ }
+{
+    float_ground::is_finite_f32(x)
+}
+
+#[no_mangle]
+pub extern "C" fn nz_is_finite_f64(x: f64) -> bool
+    ensures { λ r. ⌜ r ≡ finite x ⌝ }
+{
+    float_ground::is_finite_f64(x)
+}
+
+#[no_mangle]
+pub extern "C" fn nz_abs_f32(x: f32) -> f32
+    ensures { λ r. ⌜ r ≡ absOf x ⌝ }
+{
+    float_ground::abs_f32(x)
+}
+
+#[no_mangle]
+pub extern "C" fn nz_widen(x: f32) -> f64
+    ensures { λ r. ⌜ r ≡ x ⌝ }
+{
+    float_ground::widen(x)
+}
+
+#[no_mangle]
+pub extern "C" fn nz_narrow(x: f64) -> f32
+    ensures { λ r. ⌜ r ≡ narrowOf x ⌝ }
+{
+    float_ground::narrow(x)
+}
+
+#[no_mangle]
+pub extern "C" fn nz_sqrt_f32(x: f32) -> f32
+    ensures { λ r. ⌜ r ≡ rootOf binary32 x ⌝ }
+{
+    float_ground::sqrt_f32(x)
+}
+
+#[no_mangle]
+pub extern "C" fn nz_sqrt_f64(x: f64) -> f64
+    ensures { λ r. ⌜ r ≡ rootOf binary64 x ⌝ }
+{
+    float_ground::sqrt_f64(x)
+}

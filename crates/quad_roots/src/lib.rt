@@ -1,0 +1,113 @@
+// The roots of a quadratic that lie strictly between 0 and 1.
+// Carried over from `path_geometry.rs` of tiny-skia-path 0.12.0.
+ghost use mathlib.Core.Path.{_≡_};
+ghost use Rattle.quad_roots.specs.Roots as R;
+use float_ground::is_finite_f32;
+use float_ground::narrow;
+use float_ground::sqrt_f64;
+use float_ground::widen;
+
+// A quotient strictly between 0 and 1, if it is one.
+pub enum Divided {
+    None,
+    One(f32),
+}
+
+// The roots strictly between 0 and 1; two are strictly increasing.
+pub enum Roots {
+    None,
+    One(f32),
+    Two(f32, f32),
+}
+
+// numer / denom where numer is not below 0, if it lies strictly between 0 and 1.
+fn unit_divide(numer: f32, denom: f32) -> Divided
+    ensures { λ r. ⌜ r ≡ R.quotientOf numer denom ⌝ }
+{
+    if (denom == 0.0) | (numer == 0.0) | (numer >= denom) {
+        return Divided::None;
+    }
+    let r = numer / denom;
+    if (r > 0.0) & (r < 1.0) {
+        Divided::One(r)
+    } else {
+        Divided::None
+    }
+}
+
+// numer / denom, if it lies strictly between 0 and 1.
+pub fn valid_unit_divide(numer: f32, denom: f32) -> Divided
+    ensures { λ r. ⌜ r ≡ R.dividedOf numer denom ⌝ }
+{
+    if numer < 0.0 {
+        return unit_divide(-numer, -denom);
+    }
+    unit_divide(numer, denom)
+}
+
+// Two roots in hand: the smaller first, and equal ones once.
+fn two_roots(r: f32, s: f32) -> Roots
+    ensures { λ x. ⌜ x ≡ R.twoRoots r s ⌝ }
+{
+    if r > s {
+        return Roots::Two(s, r);
+    }
+    if r == s {
+        Roots::One(r)
+    } else {
+        Roots::Two(r, s)
+    }
+}
+
+// The roots among two quotients, in order.
+fn collected(first: Divided, second: Divided) -> Roots
+    ensures { λ x. ⌜ x ≡ R.collected first second ⌝ }
+{
+    let Divided::One(r) = first else {
+        let Divided::One(s) = second else {
+            return Roots::None;
+        };
+        return Roots::One(s);
+    };
+    let Divided::One(s) = second else {
+        return Roots::One(r);
+    };
+    two_roots(r, s)
+}
+
+// The discriminant, in f64 so that it does not overflow.
+fn discriminant(a: f32, b: f32, c: f32) -> f64
+    ensures { λ x. ⌜ x ≡ R.discriminantOf a b c ⌝ }
+{
+    widen(b) * widen(b) - 4.0 * widen(a) * widen(c)
+}
+
+// q/a and c/q are the roots, where r is the discriminant's root.
+fn q(b: f32, r: f32) -> f32
+    ensures { λ x. ⌜ x ≡ R.qOf b r ⌝ }
+{
+    if b < 0.0 {
+        -(b - r) / 2.0
+    } else {
+        -(b + r) / 2.0
+    }
+}
+
+// The roots of a·t² + b·t + c that lie strictly between 0 and 1.
+pub fn find_unit_quad_roots(a: f32, b: f32, c: f32) -> Roots
+    ensures { λ x. ⌜ x ≡ R.rootsOf a b c ⌝ }
+{
+    if a == 0.0 {
+        return collected(valid_unit_divide(-c, b), Divided::None);
+    }
+    let dr = discriminant(a, b, c);
+    if dr < 0.0 {
+        return Roots::None;
+    }
+    let r = narrow(sqrt_f64(dr));
+    if !is_finite_f32(r) {
+        return Roots::None;
+    }
+    let q = q(b, r);
+    collected(valid_unit_divide(q, a), valid_unit_divide(c, q))
+}

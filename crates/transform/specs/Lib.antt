@@ -1,0 +1,5 @@
+pub mod Row
+pub mod Kinds
+pub mod Product
+pub mod Inverse
+pub mod Mapped

@@ -1,0 +1,122 @@
+// The inverse of a transform. Carried over from `transform.rs` of tiny-skia-path 0.12.0.
+ghost use mathlib.Core.Path.{_≡_};
+ghost use Rattle.transform.specs.Inverse.{numberOf, refusalOf, invertOf, unskewedInverse, invDeterminant, skewedInverse, skewedInversion, checkedOf, dcrossOf, dscaleOf};
+use super::Transform;
+use super::scalar::is_nearly_zero_within_tolerance;
+use float_ground::narrow;
+use float_ground::widen;
+
+// What inverting answers.
+pub enum Inversion {
+    Inverted(Transform),
+    // The determinant of a skewed transform is nearly zero.
+    NearlySingular,
+    // The inverse of a skewed transform has an entry that is not finite.
+    NotFinite,
+}
+
+// One over the determinant, unless the determinant is nearly zero.
+enum InvDeterminant {
+    Is(f64),
+    NearlyZero,
+}
+
+// A determinant of at most 2^-36 counts as zero: the cube of the crate's SCALAR_NEARLY_ZERO, 2^-12.
+const NEARLY_ZERO: f32 = 1.4551915228366852e-11;
+
+impl Transform {
+    // The transform that undoes this one. Without skew it is not checked, and may have entries that are not finite.
+    pub fn invert(self) -> Inversion
+        ensures answer { λ r. ⌜ r ≡ invertOf self ⌝ }
+        ensures number { λ r. ⌜ numberOf r ≡ refusalOf self ⌝ }
+    {
+        if self.is_identity() {
+            return Inversion::Inverted(self);
+        }
+        if self.is_scale_translate() {
+            return Inversion::Inverted(unskewed(self));
+        }
+        skewed(self)
+    }
+}
+
+// The inverse of a transform that scales or moves, and does not skew.
+fn unskewed(ts: Transform) -> Transform
+    ensures { λ r. ⌜ r ≡ unskewedInverse ts ⌝ }
+{
+    if ts.has_scale() {
+        let inv_x = 1.0 / ts.sx;
+        let inv_y = 1.0 / ts.sy;
+        Transform::from_row(inv_x, 0.0, 0.0, inv_y, -ts.tx * inv_x, -ts.ty * inv_y)
+    } else {
+        Transform::from_translate(-ts.tx, -ts.ty)
+    }
+}
+
+// The inverse of a skewed transform, or why there is none.
+fn skewed(ts: Transform) -> Inversion
+    ensures { λ r. ⌜ r ≡ skewedInversion ts (invDeterminant ts) ⌝ }
+{
+    let InvDeterminant::Is(inv_det) = inv_determinant(ts) else {
+        return Inversion::NearlySingular;
+    };
+    checked(compute_inv(ts, inv_det))
+}
+
+// The inverse, if all of it is finite.
+fn checked(inverse: Transform) -> Inversion
+    ensures { λ r. ⌜ r ≡ checkedOf inverse ⌝ }
+{
+    if inverse.is_finite() {
+        Inversion::Inverted(inverse)
+    } else {
+        Inversion::NotFinite
+    }
+}
+
+// The test is on the determinant narrowed to f32, and its inverse is taken in f64.
+fn inv_determinant(ts: Transform) -> InvDeterminant
+    ensures { λ r. ⌜ r ≡ invDeterminant ts ⌝ }
+{
+    let det = dcross(ts.sx, ts.sy, ts.kx, ts.ky);
+    if is_nearly_zero_within_tolerance(narrow(det), NEARLY_ZERO) {
+        InvDeterminant::NearlyZero
+    } else {
+        InvDeterminant::Is(1.0 / det)
+    }
+}
+
+// The inverse of a skewed transform, each entry computed in f64 and narrowed once.
+fn compute_inv(ts: Transform, inv_det: f64) -> Transform
+    ensures { λ r. ⌜ r ≡ skewedInverse ts «inv_det» ⌝ }
+{
+    Transform::from_row(
+        dscale(ts.sy, inv_det),
+        dscale(-ts.ky, inv_det),
+        dscale(-ts.kx, inv_det),
+        dscale(ts.sx, inv_det),
+        dcross_dscale(ts.kx, ts.ty, ts.sy, ts.tx, inv_det),
+        dcross_dscale(ts.ky, ts.tx, ts.sx, ts.ty, inv_det),
+    )
+}
+
+// x * scale in f64, narrowed once.
+fn dscale(x: f32, scale: f64) -> f32
+    ensures { λ r. ⌜ r ≡ dscaleOf x scale ⌝ }
+{
+    narrow(widen(x) * scale)
+}
+
+// (a * b - c * d) * scale in f64, narrowed once.
+fn dcross_dscale(a: f32, b: f32, c: f32, d: f32, scale: f64) -> f32
+    ensures { λ r. ⌜ r ≡ dscaleOf (dcrossOf a b c d) scale ⌝ }
+{
+    narrow(dcross(a, b, c, d) * scale)
+}
+
+// a * b - c * d in f64.
+fn dcross(a: f32, b: f32, c: f32, d: f32) -> f64
+    ensures { λ r. ⌜ r ≡ dcrossOf a b c d ⌝ }
+{
+    widen(a) * widen(b) - widen(c) * widen(d)
+}
