@@ -63,3 +63,7 @@ kept-order u n c l l₁ e exact low fits bridge = record {
   stored = e ∙ buffer-cut (chopBy u) n c l low fits;
   in-order = subst⁻¹ (λ (v : Rule). InOrder Y c (written (chopBy v) n c)) exact (cut-in-order Y Exact exact-rule n c bridge);
 }
+
+-- the same of a lent source
+pub kept-order-from : (u : Rule) (n : ℕ) (c : Conic) (l l₁ src : List Float) → l₁ ≡ cutBuffer (chopBy u) n c (ltb (length src) 6) l → 6 ≤ length src → OrderKept u n c l l₁
+kept-order-from u n c l l₁ src e h = kept-order u n c l l₁ (e ∙ ap (λ (b : Bool). cutBuffer (chopBy u) n c b l) (le-ltb (length src) 6 h))

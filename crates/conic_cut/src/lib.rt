@@ -1,6 +1,7 @@
 // Conics cut into quads. By the exact rule the cut never turns back: the second clause of `chop_into_quads_pow2`'s contract.
 // Carried over from `path_geometry.rs` of tiny-skia-path 0.12.0; the rule, and an answer for each refusal, are added.
 ghost use mathlib.Core.Bool.{false};
+ghost use Prim.Native.Nat.{_≤_};
 ghost use lib.Dec.{ltb};
 ghost use lib.ListN.{length};
 ghost use Rattle.conic.specs.Chop.{conicFrom, chopBy};
@@ -49,6 +50,7 @@ pub fn chop_into_quads_pow2_from(
     level: u32,
 ) -> Cut
     ensures { λ r. ⌜ CutInto (chopBy rule) level (conicOf (now (src .entry)) weight) (ltb (length (now (src .entry))) 6) (now (out .entry)) r (now (out .exit)) ⌝ }
+    ensures order { λ _. ⌜ (6 ≤ length (now (src .entry)) → OrderKept rule level (conicOf (now (src .entry)) weight) (now (out .entry)) (now (out .exit))) ⌝ }
 {
     if Conic::MAX_CONIC_TO_QUAD_POW2 < level {
         return Cut::Refused(Refusal::LevelTooHigh);

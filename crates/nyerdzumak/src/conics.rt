@@ -1,15 +1,43 @@
 // The conics' calls. A conic is six lent numbers, x and y of each point, and a weight.
 ghost use mathlib.Core.Path.{_≡_};
+ghost use mathlib.Core.Bool.{cond};
+ghost use Prim.Native.Nat.{_≤_};
 ghost use lib.Dec.{ltb};
 ghost use lib.ListN.{length};
 ghost use Rattle.conic.specs.declared.Rule.the-variants.{Product, Exact};
-ghost use Rattle.conic.specs.Chop.{chopBy};
-ghost use Rattle.conic.specs.Refusal.{numberOf};
+ghost use Rattle.conic.specs.Between.{productTest, exactTest};
+ghost use Rattle.conic.specs.Chop.{chopOf, chopBy};
+ghost use Rattle.conic.specs.Level.{refuseLevel, levelAnswer};
+ghost use Rattle.conic.specs.Refusal.{numberOf, numberOfLevel};
 ghost use Rattle.conic.specs.Source.{conicOf};
+ghost use Rattle.conic_cut.specs.Auto.{autoAnswer, autoPoints};
 ghost use Rattle.conic_cut.specs.Cut.{refuse, cutBuffer, numberOfCut};
+ghost use Rattle.conic_cut.specs.Order.{OrderKept};
+ghost use Rattle.nyerdzumak.specs.Given.{levelOr, pointsOr, quadsOr};
+ghost use Rattle.nyerdzumak.specs.Lent.{halfNumbers};
+use conic::Conic;
+use conic::FromPoints;
+use conic::Level;
 use conic::Refusal;
 use conic::Rule;
+use conic_cut::AutoConicToQuads;
 use conic_cut::Cut;
+
+// The crate's between test, on a product.
+#[no_mangle]
+pub extern "C" fn nz_between_product(a: f32, b: f32, c: f32) -> bool
+    ensures { λ r. ⌜ r ≡ productTest a b c ⌝ }
+{
+    conic::between_product(a, b, c)
+}
+
+// Whether b lies between a and c, or equals one of them.
+#[no_mangle]
+pub extern "C" fn nz_between_exact(a: f32, b: f32, c: f32) -> bool
+    ensures { λ r. ⌜ r ≡ exactTest a b c ⌝ }
+{
+    conic::between_exact(a, b, c)
+}
 
 fn number_of(why: Refusal) -> u32
     ensures { λ r. ⌜ r ≡ numberOf why ⌝ }
@@ -20,6 +48,71 @@ fn number_of(why: Refusal) -> u32
         Refusal::PointNotFinite => 3,
         Refusal::BadTolerance => 4,
     }
+}
+
+// Stores both halves of a conic, seven numbers each.
+fn give_halves(c: Conic, halves: &mut [f32; 14]) -> u32
+    ensures { λ r. ⌜ r ≡ 0 ⌝ }
+    ensures halves { λ _. ⌜ now (halves .exit) ≡ halfNumbers (chopOf c) ⌝ }
+{
+    let h = c.chop();
+    *halves = [
+        h.first.p0.x,
+        h.first.p0.y,
+        h.first.p1.x,
+        h.first.p1.y,
+        h.first.p2.x,
+        h.first.p2.y,
+        h.first.weight,
+        h.second.p0.x,
+        h.second.p0.y,
+        h.second.p1.x,
+        h.second.p1.y,
+        h.second.p2.x,
+        h.second.p2.y,
+        h.second.weight,
+    ];
+    0
+}
+
+// Halves a conic as the formulas say, with no correction: x and y of three points and a weight, for each half.
+#[no_mangle]
+pub extern "C" fn nz_conic_chop(src: &[f32], weight: f32, halves: &mut [f32; 14]) -> u32
+    ensures { λ r. ⌜ r ≡ cond (ltb (length (now (src .entry))) 6) 2 0 ⌝ }
+    ensures halves { λ _. ⌜ now (halves .exit) ≡ cond (ltb (length (now (src .entry))) 6) (now (halves .entry)) (halfNumbers (chopOf (conicOf (now (src .entry)) weight))) ⌝ }
+{
+    match Conic::from_points(src, weight) {
+        FromPoints::Made(c) => give_halves(c, halves),
+        FromPoints::Refused(why) => number_of(why),
+    }
+}
+
+// Stores a level, if there is one; and the answer's number.
+fn give_level(answer: Level, level: &mut u32) -> u32
+    ensures { λ r. ⌜ r ≡ numberOfLevel answer ⌝ }
+    ensures level { λ _. ⌜ now (level .exit) ≡ levelOr (now (level .entry)) answer ⌝ }
+{
+    match answer {
+        Level::Pow2(n) => {
+            *level = n;
+            0
+        }
+        Level::Refused(why) => number_of(why),
+    }
+}
+
+// The level at which the quads are within the tolerance of the conic.
+#[no_mangle]
+pub extern "C" fn nz_conic_compute_quad_pow2(
+    src: &[f32],
+    weight: f32,
+    tolerance: f32,
+    level: &mut u32,
+) -> u32
+    ensures { λ r. ⌜ r ≡ refuseLevel (ltb (length (now (src .entry))) 6) (conicOf (now (src .entry)) weight) tolerance numberOf 0 ⌝ }
+    ensures level { λ _. ⌜ now (level .exit) ≡ levelOr (now (level .entry)) (levelAnswer (ltb (length (now (src .entry))) 6) (conicOf (now (src .entry)) weight) tolerance) ⌝ }
+{
+    give_level(Conic::compute_quad_pow2_from(src, weight, tolerance), level)
 }
 
 fn number_of_cut(answer: Cut) -> u32
@@ -33,13 +126,13 @@ fn number_of_cut(answer: Cut) -> u32
 
 // Cuts a conic into 2^level quads by the crate's own between test.
 #[no_mangle]
-pub extern "C" fn nz_chop_into_quads_pow2(
-    out: &mut [f32],
+pub extern "C" fn nz_conic_chop_into_quads_pow2(
     src: &[f32],
     weight: f32,
     level: u32,
+    out: &mut [f32],
 ) -> u32
-    ensures number { λ r. ⌜ r ≡ refuse level (length (now (out .entry))) (ltb (length (now (src .entry))) 6) numberOf 0 ⌝ }
+    ensures { λ r. ⌜ r ≡ refuse level (length (now (out .entry))) (ltb (length (now (src .entry))) 6) numberOf 0 ⌝ }
     ensures buffer { λ _. ⌜ now (out .exit) ≡ cutBuffer (chopBy Product) level (conicOf (now (src .entry)) weight) (ltb (length (now (src .entry))) 6) (now (out .entry)) ⌝ }
 {
     number_of_cut(conic_cut::chop_into_quads_pow2_from(out, Rule::Product, src, weight, level))
@@ -47,9 +140,50 @@ pub extern "C" fn nz_chop_into_quads_pow2(
 
 // The same by the exact between test: the cut that never turns back.
 #[no_mangle]
-pub extern "C" fn nz_cut_in_order(out: &mut [f32], src: &[f32], weight: f32, level: u32) -> u32
-    ensures number { λ r. ⌜ r ≡ refuse level (length (now (out .entry))) (ltb (length (now (src .entry))) 6) numberOf 0 ⌝ }
+pub extern "C" fn nz_cut_in_order(src: &[f32], weight: f32, level: u32, out: &mut [f32]) -> u32
+    ensures { λ r. ⌜ r ≡ refuse level (length (now (out .entry))) (ltb (length (now (src .entry))) 6) numberOf 0 ⌝ }
     ensures buffer { λ _. ⌜ now (out .exit) ≡ cutBuffer (chopBy Exact) level (conicOf (now (src .entry)) weight) (ltb (length (now (src .entry))) 6) (now (out .entry)) ⌝ }
+    ensures order { λ _. ⌜ (6 ≤ length (now (src .entry)) → OrderKept Exact level (conicOf (now (src .entry)) weight) (now (out .entry)) (now (out .exit))) ⌝ }
 {
     number_of_cut(conic_cut::chop_into_quads_pow2_from(out, Rule::Exact, src, weight, level))
+}
+
+// Stores a cut and how many quads it has, if there is one; and the answer's number.
+fn give_cut(cut: AutoConicToQuads, out: &mut [f32; 128], quads: &mut usize) -> u32
+    ensures { λ r. ⌜ r ≡ numberOfCut (cut .answer) ⌝ }
+    ensures out { λ _. ⌜ now (out .exit) ≡ pointsOr (now (out .entry)) (cut .answer) (cut .points) ⌝ }
+    ensures quads { λ _. ⌜ now (quads .exit) ≡ quadsOr (now (quads .entry)) (cut .answer) ⌝ }
+{
+    let answer = cut.answer;
+    let points = cut.points;
+    match answer {
+        Cut::Quads(n) => {
+            *out = points;
+            *quads = n;
+            0
+        }
+        Cut::Refused(why) => number_of(why),
+    }
+}
+
+// The crate's own choice: the cut by its own between test at the level that a tolerance of a quarter chooses.
+#[no_mangle]
+pub extern "C" fn nz_auto_conic_to_quads(
+    src: &[f32],
+    weight: f32,
+    out: &mut [f32; 128],
+    quads: &mut usize,
+) -> u32
+    ensures { λ r. ⌜ r ≡ cond (ltb (length (now (src .entry))) 6) 2 (numberOfCut (autoAnswer (conicOf (now (src .entry)) weight))) ⌝ }
+    ensures out { λ _. ⌜ now (out .exit) ≡ cond (ltb (length (now (src .entry))) 6) (now (out .entry)) (pointsOr (now (out .entry)) (autoAnswer (conicOf (now (src .entry)) weight)) (autoPoints (conicOf (now (src .entry)) weight))) ⌝ }
+    ensures quads { λ _. ⌜ now (quads .exit) ≡ cond (ltb (length (now (src .entry))) 6) (now (quads .entry)) (quadsOr (now (quads .entry)) (autoAnswer (conicOf (now (src .entry)) weight))) ⌝ }
+{
+    match Conic::from_points(src, weight) {
+        FromPoints::Made(c) => give_cut(
+            AutoConicToQuads::compute(c.p0, c.p1, c.p2, c.weight),
+            out,
+            quads,
+        ),
+        FromPoints::Refused(why) => number_of(why),
+    }
 }

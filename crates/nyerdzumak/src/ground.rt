@@ -1,10 +1,11 @@
-// The float ground's calls.
+// The float ground's calls, and the finite test of a point.
 ghost use mathlib.Core.Path.{_≡_};
-ghost use lib.Ieee.{binary32, binary64};
+ghost use lib.Ieee.{binary32, binary64, mul};
 ghost use lib.Ieee.Scale.{finite};
 ghost use Rattle.float_laws.specs.Absolute.{absOf};
 ghost use Rattle.float_laws.specs.Narrow.{narrowOf};
 ghost use Rattle.float_laws.specs.Root.{rootOf};
+use point::Point;
 
 #[no_mangle]
 pub extern "C" fn nz_is_finite_f32(x: f32) -> bool
@@ -53,4 +54,12 @@ pub extern "C" fn nz_sqrt_f64(x: f64) -> f64
     ensures { λ r. ⌜ r ≡ rootOf binary64 x ⌝ }
 {
     float_ground::sqrt_f64(x)
+}
+
+// Whether the product of a point's coordinates is finite.
+#[no_mangle]
+pub extern "C" fn nz_point_is_finite(x: f32, y: f32) -> bool
+    ensures { λ r. ⌜ r ≡ finite (mul binary32 x y) ⌝ }
+{
+    Point { x, y }.is_finite()
 }

@@ -1,11 +1,11 @@
--- `chop_into_quads_pow2_from` meets its contract: each answer by the tests that led to it. Assumes nothing.
+-- `chop_into_quads_pow2_from` meets its contract, demand 3 with it: each answer by the tests that led to it. Assumes nothing.
 use mathlib.Core.Bool.{or-true}
 use mathlib.Core.Path.{_∙_, ap, sym}
 use borrow.Author.Needs.{needs}
 use lib.ListN.{length}
 use lib.Dec.{ltb}
 use Rattle.conic_cut.specs.declared.Cut.the-variants.{Refused}
-use Rattle.conic_cut.proofs.Answers.{too-deep, too-short, cut-into}
+use Rattle.conic_cut.proofs.Answers.{too-deep, too-short, cut-into, kept-order-from}
 use Rattle.conic.proofs.Sources.{was-made, was-refused}
 use Rattle.conic.specs.Chop.{chopBy}
 use Rattle.conic.specs.Source.{conicOf}
@@ -15,7 +15,8 @@ use Rattle.conic_cut.proofs.chop_into_quads_pow2_from.Tie as tie
 returns : tie.Need-returns
 returns c =
     let a = c .before .before .before .args in
-    too-deep (chopBy (a .rule)) (a .level) (conicOf (a .src .now) (a .weight)) (ltb (length (a .src .now)) 6) (a .out .now) (c .if1 .taken)
+    let w = too-deep (chopBy (a .rule)) (a .level) (conicOf (a .src .now) (a .weight)) (ltb (length (a .src .now)) 6) (a .out .now) (c .if1 .taken) in
+    (w, kept-order-from (a .rule) (a .level) (conicOf (a .src .now) (a .weight)) (a .out .now) (a .out .now) (a .src .now) (w .buffer))
 
 from-points-requires : tie.Need-from-points-requires
 from-points-requires c κs = search needs
@@ -40,14 +41,14 @@ returns-2 c =
     let done = c .before .before .chop-into-quads-pow2 .ensures .0 in
     let answer = done .answer in
     let buffer = done .buffer in
-    cut-into (rw (told .0) answer) (rw (told .0, ← told .1) buffer)
+    (cut-into (rw (told .0) answer) (rw (told .0, ← told .1) buffer), kept-order-from (a .rule) (a .level) (conicOf (a .src .now) (a .weight)) (a .out .now) (c .before .before .chop-into-quads-pow2 .last .0) (a .src .now) (rw (told .0, ← told .1) buffer))
 
 returns-3 : tie.Need-returns-3
 returns-3 c =
     let a = c .before .before .before .before .before .before .before .args in
     let told = was-refused (a .src .now) (a .weight) (c .before .r .given .0 .0) (sym (c .before .before .before .from-points .ensures .answer) ∙ c .before .r .given .1) in
     let short = too-short (chopBy (a .rule)) (a .level) (conicOf (a .src .now) (a .weight)) (ltb (length (a .src .now)) 6) (a .out .now) (c .before .before .before .before .if1 .left) (rw (told .0, or-true)) in
-    cut-into (ap Refused (told .1) ∙ short .answer) (short .buffer)
+    (cut-into (ap Refused (told .1) ∙ short .answer) (short .buffer), kept-order-from (a .rule) (a .level) (conicOf (a .src .now) (a .weight)) (a .out .now) (a .out .now) (a .src .now) (short .buffer))
 
 pub chop-into-quads-pow2-from-spec : {M : Type 1} → statement M
 chop-into-quads-pow2-from-spec =

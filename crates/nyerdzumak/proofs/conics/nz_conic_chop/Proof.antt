@@ -1,0 +1,13 @@
+-- `nyerdzumak::conics::nz_conic_chop` meets its contract, by those of `from_points` and `chop`. Assumes nothing.
+use mathlib.Core.Path.{refl, sym, ap, _∙_}
+use borrow.Author.Needs.{needs}
+use Rattle.conic.specs.declared.Refusal.{Refusal}
+use Rattle.conic.specs.Refusal.{numberOf}
+use Rattle.conic.proofs.Sources.{was-made, was-refused}
+use Rattle.nyerdzumak.proofs.conics.nz_conic_chop.Statement.{statement}
+use Rattle.nyerdzumak.proofs.conics.nz_conic_chop.Tie as tie
+
+pub nz-conic-chop-spec : {M : Type 1} → statement M
+nz-conic-chop-spec = tie.close (tie.spec (λ c κs. tt) (λ c. search needs) (λ c κs. tt) (λ c. search needs) (λ c κs. tt)
+    (λ c. let a = c .before .before .before .before .before .before .before .args in let told = was-made (a .src .now) (a .weight) (c .before .before .before .c .given .0 .0) (sym (c .before .before .before .before .before .from-points .ensures .answer) ∙ c .before .before .before .c .given .1) in rw (told .0, ← told .1) (c .give-halves .ensures))
+    (λ c. let a = c .before .before .before .before .before .before .args in let told = was-refused (a .src .now) (a .weight) (c .before .before .why .given .0 .0) (sym (c .before .before .before .before .from-points .ensures .answer) ∙ c .before .before .why .given .1) in rw (told .0) (c .number-of .ensures ∙ ap (λ (r : Refusal). numberOf r) (told .1), refl)))

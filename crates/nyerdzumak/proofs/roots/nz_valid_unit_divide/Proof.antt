@@ -1,0 +1,6 @@
+-- `nyerdzumak::roots::nz_valid_unit_divide` meets its contract, by that of the division. Assumes nothing.
+use Rattle.nyerdzumak.proofs.roots.nz_valid_unit_divide.Statement.{statement}
+use Rattle.nyerdzumak.proofs.roots.nz_valid_unit_divide.Tie as tie
+
+pub nz-valid-unit-divide-spec : {M : Type 1} → statement M
+nz-valid-unit-divide-spec = tie.close (tie.spec (λ c κs. tt) (λ c κs. tt) (λ c. rw (← c .before .before .before .valid-unit-divide .ensures) (c .give-one .ensures)))

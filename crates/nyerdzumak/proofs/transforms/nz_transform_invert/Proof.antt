@@ -1,0 +1,7 @@
+-- `nyerdzumak::transforms::nz_transform_invert` meets its contract, by that of `invert`. Assumes nothing.
+use mathlib.Core.Path.{_∙_}
+use Rattle.nyerdzumak.proofs.transforms.nz_transform_invert.Statement.{statement}
+use Rattle.nyerdzumak.proofs.transforms.nz_transform_invert.Tie as tie
+
+pub nz-transform-invert-spec : {M : Type 1} → statement M
+nz-transform-invert-spec = tie.close (tie.spec (λ c κs. tt) (λ c κs. tt) (λ c κs. tt) (λ c. rw (← c .before .before .before .matrix .ensures) (c .give-inverse .ensures .0 ∙ c .before .before .invert .ensures .1, rw (← c .before .before .invert .ensures .0) (c .give-inverse .ensures .1))))
