@@ -10,6 +10,11 @@ const SPECIAL: [u32; 24] = [
     0x5f00_0000, 0x5f80_0000, 0x6000_0000, 0x7f00_0000, 0xff00_0000, 0x7f7f_ffff, 0xff7f_ffff, 0x7f80_0000, 0xff80_0000, 0x7fc0_0000, 0x1f80_0000, 0x0d80_0000,
 ];
 
+// A computed NaN has other bits on another processor, and the inputs are to be the same on all.
+fn plain(x: f32) -> f32 {
+    if x.is_nan() { f32::from_bits(0x7fc0_0000) } else { x }
+}
+
 impl Inputs {
     pub fn new(seed: u64) -> Inputs {
         Inputs { state: seed.wrapping_mul(0x9e37_79b9_7f4a_7c15) | 1, kind: 0 }
@@ -82,7 +87,7 @@ impl Inputs {
 
     pub fn weight(&mut self) -> f32 {
         match self.below(12) {
-            0 => f32::NAN,
+            0 => f32::from_bits(0x7fc0_0000),
             1 => 0.0,
             2 => -1.0,
             3 => 1.0,
@@ -129,8 +134,8 @@ impl Inputs {
             // a determinant about zero: rows that are nearly multiples
             5 => {
                 let k = self.value();
-                m[2] = m[0] * k;
-                m[3] = m[1] * k;
+                m[2] = plain(m[0] * k);
+                m[3] = plain(m[1] * k);
                 if self.chance(2) {
                     m[3] = f32::from_bits(m[3].to_bits() ^ 1);
                 }
@@ -146,5 +151,53 @@ impl Inputs {
             _ => {}
         }
         m
+    }
+
+    // A double: any bits, or where binary32 has its values and about its ends, half of these beside a tie.
+    pub fn double(&mut self) -> f64 {
+        let r = self.next();
+        let mut b = self.next();
+        if r % 2 == 0 {
+            b = (b & (1 << 63)) | (868 + (r >> 8) % 290) << 52 | (b & 0xf_ffff_ffff_ffff);
+            if r % 4 == 0 {
+                b = (b & !0x1fff_ffff) + 0x1000_0000 + (r >> 40) % 3 - 1;
+            }
+        }
+        f64::from_bits(b)
+    }
+
+    // A quad's or a cubic's 2n numbers, some points of it coinciding, and a parameter.
+    pub fn curve(&mut self, n: usize) -> ([f32; 8], f32) {
+        let mut xs = [0.0; 8];
+        for x in xs[..2 * n].iter_mut() {
+            *x = self.value();
+        }
+        if self.chance(3) {
+            let k = self.below(n as u64 - 1) as usize;
+            xs[2 * k + 2] = xs[2 * k];
+            xs[2 * k + 3] = if self.chance(4) { -xs[2 * k + 1] } else { xs[2 * k + 1] };
+        }
+        let t = self.parameter();
+        (xs, t)
+    }
+
+    pub fn tolerance(&mut self) -> f32 {
+        match self.below(8) {
+            0 => self.special(),
+            1 => self.any(),
+            2 => 0.25,
+            3 => -0.0,
+            _ => self.below(4000) as f32 / 1000.0,
+        }
+    }
+
+    // A length about the limit: mostly enough.
+    pub fn length(&mut self, limit: usize) -> usize {
+        match self.below(8) {
+            0 => self.below(limit as u64 + 4) as usize,
+            1 => limit - 1,
+            2 => limit + self.below(4) as usize,
+            _ => limit,
+        }
     }
 }

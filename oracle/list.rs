@@ -84,34 +84,21 @@ fn values(i: &mut Inputs, words: &mut Vec<u32>, n: usize) -> Vec<f32> {
 }
 
 fn f64_of(i: &mut Inputs, words: &mut Vec<u32>) -> f64 {
-    let r = i.next();
-    let mut b = i.next();
-    if r % 2 == 0 {
-        // where binary32 has its values, and about its ends
-        b = (b & (1 << 63)) | (868 + (r >> 8) % 290) << 52 | (b & 0xf_ffff_ffff_ffff);
-        if r % 4 == 0 {
-            b = (b & !0x1fff_ffff) + 0x1000_0000 + (r >> 40) % 3 - 1;
-        }
-    }
+    let x = i.double();
+    let b = x.to_bits();
     words.push(b as u32);
     words.push((b >> 32) as u32);
-    f64::from_bits(b)
+    x
 }
 
-// A quad's or a cubic's points, some of them coinciding, and a parameter in word 9.
+// A quad's or a cubic's points, and a parameter in word 9.
 fn curve(i: &mut Inputs, words: &mut Vec<u32>, n: usize) -> (Vec<f32>, f32) {
     i.begin();
-    let mut xs: Vec<f32> = (0..2 * n).map(|_| i.value()).collect();
-    if i.chance(3) {
-        let k = i.below(n as u64 - 1) as usize;
-        xs[2 * k + 2] = xs[2 * k];
-        xs[2 * k + 3] = if i.chance(4) { -xs[2 * k + 1] } else { xs[2 * k + 1] };
-    }
-    let t = i.parameter();
-    put(words, &xs);
+    let (xs, t) = i.curve(n);
+    put(words, &xs[..2 * n]);
     words.resize(8, 0);
     words.push(t.to_bits());
-    (xs, t)
+    (xs.to_vec(), t)
 }
 
 fn evaluated(t: f32, at: impl Fn(NormalizedF32) -> Point) -> Option<Sum> {
@@ -224,13 +211,7 @@ const CALLS: &[(&str, usize, Call)] = &[
     }),
     ("compute_quad_pow2", 5500, |i, w| {
         let c = conic(i, w);
-        let t = match i.below(8) {
-            0 => i.special(),
-            1 => i.any(),
-            2 => 0.25,
-            3 => -0.0,
-            _ => i.below(4000) as f32 / 1000.0,
-        };
+        let t = i.tolerance();
         w.push(t.to_bits());
         Some(match c.compute_quad_pow2(t) {
             Some(n) => Sum::new().word(0).word(n as u32),

@@ -12,7 +12,7 @@ use point::Point;
 use transform::Inversion;
 use transform::Transform;
 
-pub fn matrix(m: &[f32; 6]) -> Transform
+pub(crate) fn matrix(m: &[f32; 6]) -> Transform
     ensures { λ r. ⌜ r ≡ matrixOf (now (m .entry)) ⌝ }
 {
     Transform::from_row(m[0], m[1], m[2], m[3], m[4], m[5])

@@ -1,0 +1,55 @@
+// The library's calls for a Rust program that links it: `include!` this file, or name it by `#[path]`. What each call
+// does stands in nyerdzumak.h. A lent slice is a pointer that is not null and its length in numbers.
+extern "C" {
+    pub fn nz_cut_in_order(src: *const f32, src_len: usize, weight: f32, level: u32, out: *mut f32, out_len: usize) -> u32;
+    pub fn nz_conic_chop_into_quads_pow2(src: *const f32, src_len: usize, weight: f32, level: u32, out: *mut f32, out_len: usize) -> u32;
+    pub fn nz_conic_compute_quad_pow2(src: *const f32, src_len: usize, weight: f32, tolerance: f32, level: *mut u32) -> u32;
+    pub fn nz_auto_conic_to_quads(src: *const f32, src_len: usize, weight: f32, out: *mut [f32; 128], quads: *mut usize) -> u32;
+    pub fn nz_conic_chop(src: *const f32, src_len: usize, weight: f32, halves: *mut [f32; 14]) -> u32;
+    pub fn nz_between_product(a: f32, b: f32, c: f32) -> bool;
+    pub fn nz_between_exact(a: f32, b: f32, c: f32) -> bool;
+    pub fn nz_eval_quad_at(src: *const f32, src_len: usize, t: f32, out: *mut [f32; 2]) -> u32;
+    pub fn nz_eval_cubic_pos_at(src: *const f32, src_len: usize, t: f32, out: *mut [f32; 2]) -> u32;
+    pub fn nz_eval_quad_tangent_at(src: *const f32, src_len: usize, t: f32, out: *mut [f32; 2]) -> u32;
+    pub fn nz_eval_cubic_tangent_at(src: *const f32, src_len: usize, t: f32, out: *mut [f32; 2]) -> u32;
+    pub fn nz_chop_quad_at(src: *const f32, src_len: usize, t: f32, dst: *mut f32, dst_len: usize) -> u32;
+    pub fn nz_chop_cubic_at2(src: *const f32, src_len: usize, t: f32, dst: *mut f32, dst_len: usize) -> u32;
+    pub fn nz_find_quad_max_curvature(src: *const f32, src_len: usize, t: *mut f32) -> u32;
+    pub fn nz_valid_unit_divide(numer: f32, denom: f32, root: *mut [f32; 1], count: *mut u32) -> u32;
+    pub fn nz_find_unit_quad_roots(a: f32, b: f32, c: f32, roots: *mut [f32; 2], count: *mut u32) -> u32;
+    pub fn nz_find_quad_extrema(a: f32, b: f32, c: f32, root: *mut [f32; 1], count: *mut u32) -> u32;
+    pub fn nz_find_cubic_extrema(a: f32, b: f32, c: f32, d: f32, roots: *mut [f32; 2], count: *mut u32) -> u32;
+    pub fn nz_find_cubic_inflections(src: *const f32, src_len: usize, roots: *mut [f32; 2], count: *mut u32) -> u32;
+    pub fn nz_transform_identity(out: *mut [f32; 6]) -> u32;
+    pub fn nz_transform_from_translate(tx: f32, ty: f32, out: *mut [f32; 6]) -> u32;
+    pub fn nz_transform_from_scale(sx: f32, sy: f32, out: *mut [f32; 6]) -> u32;
+    pub fn nz_transform_from_skew(kx: f32, ky: f32, out: *mut [f32; 6]) -> u32;
+    pub fn nz_transform_pre_concat(a: *const [f32; 6], b: *const [f32; 6], out: *mut [f32; 6]) -> u32;
+    pub fn nz_transform_post_concat(a: *const [f32; 6], b: *const [f32; 6], out: *mut [f32; 6]) -> u32;
+    pub fn nz_transform_pre_scale(m: *const [f32; 6], sx: f32, sy: f32, out: *mut [f32; 6]) -> u32;
+    pub fn nz_transform_post_scale(m: *const [f32; 6], sx: f32, sy: f32, out: *mut [f32; 6]) -> u32;
+    pub fn nz_transform_pre_translate(m: *const [f32; 6], tx: f32, ty: f32, out: *mut [f32; 6]) -> u32;
+    pub fn nz_transform_post_translate(m: *const [f32; 6], tx: f32, ty: f32, out: *mut [f32; 6]) -> u32;
+    pub fn nz_transform_invert(m: *const [f32; 6], out: *mut [f32; 6]) -> u32;
+    pub fn nz_transform_map_point(m: *const [f32; 6], point: *mut [f32; 2]) -> u32;
+    pub fn nz_transform_map_numbers(m: *const [f32; 6], numbers: *mut f32, numbers_len: usize) -> u32;
+    pub fn nz_transform_is_finite(m: *const [f32; 6]) -> bool;
+    pub fn nz_transform_is_valid(m: *const [f32; 6]) -> bool;
+    pub fn nz_transform_is_identity(m: *const [f32; 6]) -> bool;
+    pub fn nz_transform_is_scale(m: *const [f32; 6]) -> bool;
+    pub fn nz_transform_is_skew(m: *const [f32; 6]) -> bool;
+    pub fn nz_transform_is_translate(m: *const [f32; 6]) -> bool;
+    pub fn nz_transform_is_scale_translate(m: *const [f32; 6]) -> bool;
+    pub fn nz_transform_has_scale(m: *const [f32; 6]) -> bool;
+    pub fn nz_transform_has_skew(m: *const [f32; 6]) -> bool;
+    pub fn nz_transform_has_translate(m: *const [f32; 6]) -> bool;
+    pub fn nz_transform_get_scale(m: *const [f32; 6], out: *mut [f32; 2]) -> u32;
+    pub fn nz_is_finite_f32(x: f32) -> bool;
+    pub fn nz_is_finite_f64(x: f64) -> bool;
+    pub fn nz_point_is_finite(x: f32, y: f32) -> bool;
+    pub fn nz_abs_f32(x: f32) -> f32;
+    pub fn nz_widen(x: f32) -> f64;
+    pub fn nz_narrow(x: f64) -> f32;
+    pub fn nz_sqrt_f32(x: f32) -> f32;
+    pub fn nz_sqrt_f64(x: f64) -> f64;
+}

@@ -1,0 +1,104 @@
+// What a call gave, word by word, and how two such lists are compared.
+
+#[derive(Clone, Copy, PartialEq)]
+enum Kind {
+    Bits,  // copied, or not a float: the same bits
+    Float, // computed: any NaN is any NaN
+}
+
+pub struct Output {
+    words: [u32; 192],
+    kinds: [Kind; 192],
+    len: usize,
+}
+
+// What stands in lent memory before a call: a number of its own in each place.
+pub fn stood(k: usize) -> f32 {
+    7000.0 + k as f32
+}
+
+pub fn buffer<const N: usize>() -> [f32; N] {
+    std::array::from_fn(stood)
+}
+
+pub enum Verdict {
+    Same,
+    ZeroSign,
+    Different,
+}
+
+impl Output {
+    pub fn new() -> Output {
+        Output { words: [0; 192], kinds: [Kind::Bits; 192], len: 0 }
+    }
+
+    pub fn clear(&mut self) {
+        self.len = 0;
+    }
+
+    fn push(&mut self, word: u32, kind: Kind) {
+        self.words[self.len] = word;
+        self.kinds[self.len] = kind;
+        self.len += 1;
+    }
+
+    pub fn number(&mut self, n: u32) {
+        self.push(n, Kind::Bits);
+    }
+
+    pub fn flag(&mut self, b: bool) {
+        self.number(b as u32);
+    }
+
+    pub fn computed(&mut self, xs: &[f32]) {
+        for x in xs {
+            self.push(x.to_bits(), Kind::Float);
+        }
+    }
+
+    pub fn copied(&mut self, xs: &[f32]) {
+        for x in xs {
+            self.push(x.to_bits(), Kind::Bits);
+        }
+    }
+
+    pub fn double(&mut self, x: f64) {
+        let bits = if x.is_nan() { f64::NAN.to_bits() } else { x.to_bits() };
+        self.number(bits as u32);
+        self.number((bits >> 32) as u32);
+    }
+
+    // What stood in the places from `from` up to `to`.
+    pub fn untouched(&mut self, from: usize, to: usize) {
+        for k in from..to {
+            self.copied(&[stood(k)]);
+        }
+    }
+
+    // `self` is the library's; the judge says which words are computed.
+    pub fn against(&self, judge: &Output) -> Verdict {
+        let mut verdict = Verdict::Same;
+        if self.len != judge.len {
+            return Verdict::Different;
+        }
+        for k in 0..self.len {
+            let (a, b) = (self.words[k], judge.words[k]);
+            if a == b {
+                continue;
+            }
+            let (x, y) = (f32::from_bits(a), f32::from_bits(b));
+            match judge.kinds[k] {
+                Kind::Float if x.is_nan() && y.is_nan() => {}
+                Kind::Float if x == 0.0 && y == 0.0 => verdict = Verdict::ZeroSign,
+                _ => return Verdict::Different,
+            }
+        }
+        verdict
+    }
+
+    // The words in which two outputs are not the same bits.
+    pub fn apart(&self, judge: &Output) -> String {
+        let words = (0..self.len.max(judge.len)).filter(|&k| self.words[k] != judge.words[k]);
+        words.map(|k| format!("word {}: {:08x}, not {:08x}", k, self.words[k], judge.words[k])).collect::<Vec<_>>().join("; ")
+    }
+}
