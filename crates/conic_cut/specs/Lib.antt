@@ -1,5 +1,4 @@
 pub mod Agree
 pub mod Auto
 pub mod Cut
-pub mod Examples
 pub mod Order

@@ -1,0 +1,92 @@
+-- The figures that the scope document marks for the checked list, floats by their patterns, and what it is for one to hold. Definitions only.
+use Prim.Native.Nat.{ℕ}
+use mathlib.Core.Path.{_≡_}
+use mathlib.Core.Bool.{Bool, true, false}
+use mathlib.Core.List.{List, [], _∷_}
+use lib.Ieee.{Float, binary32, binary64, ofBits, toBits}
+use Rattle.float_laws.specs.Narrow.{narrowOf}
+use Rattle.float_laws.specs.Root.{Root}
+use Rattle.point.specs.declared.Point.{Point}
+use Rattle.quad_roots.specs.declared.Roots.{Roots}
+use Rattle.quad_roots.specs.declared.Roots.the-variants.{None, One, Two}
+use Rattle.quad_roots.specs.Roots.{rootsOf}
+use Rattle.conic.specs.declared.Conic.{Conic}
+use Rattle.conic.specs.declared.Rule.{Rule}
+use Rattle.conic.specs.declared.Rule.the-variants.{Product, Exact}
+use Rattle.conic.specs.Between.{test}
+use Rattle.conic.specs.Chop.{chopBy}
+use Rattle.conic_cut.specs.declared.Cut.the-variants.{Quads}
+use Rattle.conic_cut.specs.Cut.{written, flat, room, cutAnswer, numberOfCut}
+
+pub data Figure : Type 0 where
+  -- x and its root, in f32
+  root : ℕ → ℕ → Figure
+  -- an f64 and what it is narrowed to
+  narrowed : ℕ → ℕ → Figure
+  -- a, b and c, and the roots of a·t² + b·t + c strictly between 0 and 1
+  roots : ℕ → ℕ → ℕ → List ℕ → Figure
+  -- whether the rule's test finds the second number between the others
+  between : Rule → ℕ → ℕ → ℕ → Bool → Figure
+  -- the conic below cut by the rule at a level: how many quads, and the numbers of the points
+  cut : Rule → ℕ → ℕ → List ℕ → Figure
+  -- a level, how many numbers there is room for, and the number of the refusal
+  refused : ℕ → ℕ → ℕ → Figure
+
+unfoldable pub bits : List Float → List ℕ
+bits [] = []
+bits (x ∷ l) = toBits binary32 x ∷ bits l
+
+unfoldable pub rootBits : Roots → List ℕ
+rootBits None = []
+rootBits (One r) = bits (r ∷ [])
+rootBits (Two r s) = bits (r ∷ s ∷ [])
+
+unfoldable pub at : ℕ → ℕ → Point
+at x y = record { x = ofBits binary32 x; y = ofBits binary32 y }
+
+-- (0,0), (4,0), (4,4) at weight 1
+unfoldable pub corner : Conic
+corner = record { p0 = at 0 0; p1 = at 0x4080_0000 0; p2 = at 0x4080_0000 0x4080_0000; weight = ofBits binary32 0x3f80_0000 }
+
+-- a root by its meaning: no other value of the format is nearer
+abbrev pub Holds : Figure → Type 0
+Holds (root x r) = Root binary32 (ofBits binary32 x) (ofBits binary32 r)
+Holds (narrowed x r) = toBits binary32 (narrowOf (ofBits binary64 x)) ≡ r
+Holds (roots a b c l) = rootBits (rootsOf (ofBits binary32 a) (ofBits binary32 b) (ofBits binary32 c)) ≡ l
+Holds (between u a b c answer) = test u (ofBits binary32 a) (ofBits binary32 b) (ofBits binary32 c) ≡ answer
+Holds (cut u n quads l) = (cutAnswer n (room n) false ≡ Quads quads) × (bits (flat (written (chopBy u) n corner)) ≡ l)
+Holds (refused n len number) = numberOfCut (cutAnswer n len false) ≡ number
+
+abbrev pub AllHold : List Figure → Type 0
+AllHold [] = Unit {0}
+AllHold (g ∷ l) = Holds g × AllHold l
+
+abbrev pub figures : List Figure
+figures =
+    -- of 4, of 2 and of 2^-149
+    root 0x4080_0000 0x4000_0000
+    ∷ root 0x4000_0000 0x3fb5_04f3
+    ∷ root 1 0x1a35_04f3
+    -- 16777217 and 16777219 to 16777216 and 16777220
+    ∷ narrowed 0x4170_0000_1000_0000 0x4b80_0000
+    ∷ narrowed 0x4170_0000_3000_0000 0x4b80_0002
+    -- (8,-6,1): 0.25 and 0.5; (4,-4,1): 0.5; (0,4,-1): 0.25; (1,0,1) and (0,0,1): none
+    ∷ roots 0x4100_0000 0xc0c0_0000 0x3f80_0000 (0x3e80_0000 ∷ 0x3f00_0000 ∷ [])
+    ∷ roots 0x4080_0000 0xc080_0000 0x3f80_0000 (0x3f00_0000 ∷ [])
+    ∷ roots 0 0x4080_0000 0xbf80_0000 (0x3e80_0000 ∷ [])
+    ∷ roots 0x3f80_0000 0 0x3f80_0000 []
+    ∷ roots 0 0 0x3f80_0000 []
+    -- (0, 2^-100, 0) and (-2^127, 2^127, 2^127)
+    ∷ between Product 0 0x0d80_0000 0 true
+    ∷ between Exact 0 0x0d80_0000 0 false
+    ∷ between Product 0xff00_0000 0x7f00_0000 0x7f00_0000 false
+    ∷ between Exact 0xff00_0000 0x7f00_0000 0x7f00_0000 true
+    -- at level 0 the three points; at level 1 (0,0), (2,0), (3,1), (4,2), (4,4)
+    ∷ cut Product 0 1 (0 ∷ 0 ∷ 0x4080_0000 ∷ 0 ∷ 0x4080_0000 ∷ 0x4080_0000 ∷ [])
+    ∷ cut Exact 0 1 (0 ∷ 0 ∷ 0x4080_0000 ∷ 0 ∷ 0x4080_0000 ∷ 0x4080_0000 ∷ [])
+    ∷ cut Product 1 2 (0 ∷ 0 ∷ 0x4000_0000 ∷ 0 ∷ 0x4040_0000 ∷ 0x3f80_0000 ∷ 0x4080_0000 ∷ 0x4000_0000 ∷ 0x4080_0000 ∷ 0x4080_0000 ∷ [])
+    ∷ cut Exact 1 2 (0 ∷ 0 ∷ 0x4000_0000 ∷ 0 ∷ 0x4040_0000 ∷ 0x3f80_0000 ∷ 0x4080_0000 ∷ 0x4000_0000 ∷ 0x4080_0000 ∷ 0x4080_0000 ∷ [])
+    -- nine numbers of room at level 1, and level 5
+    ∷ refused 1 9 2
+    ∷ refused 5 1000 1
+    ∷ []
