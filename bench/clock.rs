@@ -1,0 +1,120 @@
+// The clock: cutting, mapping, roots and narrowing beside the original, in one process: medians of 401 batches, in nanoseconds a
+// call. Cuts are timed with the buffer cleared before each call, on both sides, and not cleared.
+use original::path_geometry::Conic;
+use original::{Point, Transform};
+use std::hint::black_box;
+use std::time::Instant;
+
+include!("../include/nyerdzumak.rs");
+
+const CONICS: usize = 64;
+
+// The median over 401 batches of the time of one of `calls` calls.
+fn median(calls: usize, mut batch: impl FnMut()) -> f64 {
+    let mut times: Vec<f64> = (0..401)
+        .map(|_| {
+            let start = Instant::now();
+            batch();
+            start.elapsed().as_nanos() as f64 / calls as f64
+        })
+        .collect();
+    times.sort_by(|a, b| a.partial_cmp(b).unwrap());
+    times[200]
+}
+
+fn row(name: &str, ours: f64, theirs: f64) {
+    println!("{:<52} {:8.1} ns, the original {:8.1} ns, {:.2} times", name, ours, theirs, ours / theirs);
+}
+
+// Conics with whole milliseconds, monotone; or with coordinates whose products overflow.
+fn conics(huge: bool) -> Vec<([f32; 6], f32)> {
+    let mut s = 88172645463325252u64;
+    let mut next = move || {
+        s ^= s << 13;
+        s ^= s >> 7;
+        s ^= s << 17;
+        (s >> 40) as f32
+    };
+    (0..CONICS)
+        .map(|_| {
+            let scale = if huge { 1.0e32 } else { 1.0 };
+            let (a, b, c) = (next(), next(), next());
+            let p = [a, c, a + b * 0.5, c + b * 0.25, a + b, c + b].map(|x| x * scale);
+            (p, 0.25 + next() / 16777216.0)
+        })
+        .collect()
+}
+
+// One of the library's cuts, as the C face has it.
+type Cut = unsafe extern "C" fn(*const f32, usize, f32, u32, *mut f32, usize) -> u32;
+
+fn cuts(huge: bool, cleared: bool) {
+    let inputs = conics(huge);
+    let originals: Vec<Conic> = inputs
+        .iter()
+        .map(|(p, w)| Conic::new(Point::from_xy(p[0], p[1]), Point::from_xy(p[2], p[3]), Point::from_xy(p[4], p[5]), *w))
+        .collect();
+    let mut points = [Point::zero(); 33];
+    let theirs = median(CONICS, || {
+        for c in &originals {
+            if cleared {
+                points = black_box([Point::zero(); 33]);
+            }
+            black_box(black_box(c).chop_into_quads_pow2(4, &mut points));
+        }
+    });
+    let mut out = [0.0f32; 66];
+    for (name, cut) in [("product", nz_conic_chop_into_quads_pow2 as Cut), ("exact", nz_cut_in_order as Cut)] {
+        let ours = median(CONICS, || {
+            for (p, w) in &inputs {
+                if cleared {
+                    out = black_box([0.0; 66]);
+                }
+                black_box(unsafe { cut(black_box(p).as_ptr(), 6, *w, 4, out.as_mut_ptr(), 66) });
+            }
+        });
+        let kind = if huge { ", overflowing" } else { "" };
+        let buffer = if cleared { "cleared" } else { "not cleared" };
+        row(&format!("cut at level 4, {} rule{}, {}", name, kind, buffer), ours, theirs);
+    }
+}
+
+fn mapping() {
+    let m = [0.5f32, 0.25, -0.125, 0.75, 3.0, -2.0];
+    let t = Transform::from_row(m[0], m[1], m[2], m[3], m[4], m[5]);
+    let mut points: Vec<Point> = (0..1000).map(|k| Point::from_xy(k as f32, 1000.0 - k as f32)).collect();
+    let theirs = median(1, || t.map_points(black_box(&mut points)));
+    let mut numbers: Vec<f32> = points.iter().flat_map(|p| [p.x, p.y]).collect();
+    let ours = median(1, || {
+        black_box(unsafe { nz_transform_map_numbers(&m, black_box(numbers.as_mut_ptr()), 2000) });
+    });
+    row("map 1,000 points, skewed, in place", ours, theirs);
+}
+
+// Independent calls, each through a pointer of its own, so that neither side is inlined.
+fn ground() {
+    const CALLS: usize = 1024;
+    let singles: Vec<f32> = conics(false).iter().cycle().take(CALLS).map(|c| c.0[1] + 1.0).collect();
+    let doubles: Vec<f64> = singles.iter().map(|x| *x as f64 * 1.1).collect();
+    fn timed<A: Copy, B>(inputs: &[A], f: fn(A) -> B) -> f64 {
+        let f = black_box(f);
+        median(CALLS, || {
+            for x in inputs {
+                black_box(f(*x));
+            }
+        })
+    }
+    row("sqrt_f32", timed(&singles, |x| unsafe { nz_sqrt_f32(x) }), timed(&singles, |x| x.sqrt()));
+    row("sqrt_f64", timed(&doubles, |x| unsafe { nz_sqrt_f64(x) }), timed(&doubles, |x| x.sqrt()));
+    row("narrow", timed(&doubles, |x| unsafe { nz_narrow(x) }), timed(&doubles, |x| x as f32));
+    row("widen", timed(&singles, |x| unsafe { nz_widen(x) }), timed(&singles, |x| x as f64));
+}
+
+fn main() {
+    for cleared in [false, true] {
+        cuts(false, cleared);
+        cuts(true, cleared);
+    }
+    mapping();
+    ground();
+}
