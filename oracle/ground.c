@@ -1,19 +1,11 @@
 // The float ground beside the processor: every call on random patterns, bit for bit but for a NaN's bits.
 // Arguments: how many patterns for each call, and the seed. The last line is 'N inputs, M differences'.
 #include <math.h>
-#include <stdbool.h>
-#include <stdint.h>
 #include <stdio.h>
 #include <stdlib.h>
 #include <string.h>
 
-bool nz_is_finite_f32(float x);
-bool nz_is_finite_f64(double x);
-float nz_abs_f32(float x);
-double nz_widen(float x);
-float nz_narrow(double x);
-float nz_sqrt_f32(float x);
-double nz_sqrt_f64(double x);
+#include "../include/nyerdzumak.h"
 
 static uint64_t state;
 

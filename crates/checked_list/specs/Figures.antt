@@ -16,7 +16,8 @@ use Rattle.conic.specs.declared.Rule.the-variants.{Product, Exact}
 use Rattle.conic.specs.Between.{test}
 use Rattle.conic.specs.Chop.{chopBy}
 use Rattle.conic_cut.specs.declared.Cut.the-variants.{Quads}
-use Rattle.conic_cut.specs.Cut.{written, flat, room, cutAnswer, numberOfCut}
+use Rattle.point.specs.Point.{flat}
+use Rattle.conic_cut.specs.Cut.{written, room, cutAnswer, numberOfCut}
 
 pub data Figure : Type 0 where
   -- x and its root, in f32

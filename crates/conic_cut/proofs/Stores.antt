@@ -11,10 +11,10 @@ use lib.ListN.{length, take, drop, replicate, getD, length-append, length-drop, 
 use lib.Seq.{sets, drop-cons}
 use lib.Ieee.{Float, nan}
 use Rattle.point.specs.declared.Point.{Point}
-use Rattle.point.specs.Point.{pointFinite}
+use Rattle.point.specs.Point.{pointFinite, flat}
 use Rattle.conic.specs.declared.Conic.{Conic}
 use Rattle.conic.specs.declared.Halves.{Halves}
-use Rattle.conic_cut.specs.Cut.{cutPoints, allFinite, plain, pinned, written, flat, pointsOf}
+use Rattle.conic_cut.specs.Cut.{cutPoints, allFinite, plain, pinned, written, pointsOf}
 use Rattle.conic_cut.proofs.Lists.{sets-then, sets-amid, sets-take}
 
 -- ---- powers and lengths

@@ -13,7 +13,8 @@ use Rattle.conic.specs.Level.{quarter, conicFinite, levelOf}
 use Rattle.conic_cut.specs.declared.AutoConicToQuads.{AutoConicToQuads}
 use Rattle.conic_cut.specs.declared.Cut.{Cut}
 use Rattle.conic_cut.specs.declared.Cut.the-variants.{Quads, Refused}
-use Rattle.conic_cut.specs.Cut.{written, flat, room, numberOfCut}
+use Rattle.point.specs.Point.{flat}
+use Rattle.conic_cut.specs.Cut.{written, room, numberOfCut}
 
 unfoldable pub zeros : List Float
 zeros = replicate 128 (ofBits binary32 0)

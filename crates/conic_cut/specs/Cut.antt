@@ -7,7 +7,7 @@ use lib.Dec.{ltb}
 use lib.ListN.{length, drop, replicate}
 use lib.Ieee.{Float}
 use Rattle.point.specs.declared.Point.{Point}
-use Rattle.point.specs.Point.{pointFinite}
+use Rattle.point.specs.Point.{pointFinite, flat}
 use Rattle.conic.specs.declared.Conic.{Conic}
 use Rattle.conic.specs.declared.Halves.{Halves}
 use Rattle.conic.specs.declared.Refusal.{Refusal}
@@ -37,12 +37,7 @@ pinned n c = c .p0 ∷ (replicate (2 * 2 ^ n - 1) (c .p1) ++ (c .p2 ∷ []))
 unfoldable pub written : (Conic → Halves) → ℕ → Conic → List Point
 written f n c = cond (allFinite (plain f n c)) (plain f n c) (pinned n c)
 
--- ---- the numbers: x then y for each point
-unfoldable pub flat : List Point → List Float
-flat [] = []
-flat (p ∷ ps) = p .x ∷ p .y ∷ flat ps
-
--- how many they are
+-- ---- their numbers, x then y for each: how many they are
 abbrev pub room : ℕ → ℕ
 room n = 2 * (2 * 2 ^ n + 1)
 

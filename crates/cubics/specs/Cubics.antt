@@ -14,7 +14,8 @@ use Rattle.cubics.specs.declared.Extrema.{Extrema}
 use Rattle.cubics.specs.declared.Extrema.the-variants as E
 use Rattle.cubics.specs.declared.Inflections.{Inflections}
 use Rattle.cubics.specs.declared.Inflections.the-variants as I
-use Rattle.curves.specs.Lent.{pointOf, flat}
+use Rattle.point.specs.Point.{flat}
+use Rattle.curves.specs.Lent.{pointOf}
 use Rattle.curves.specs.Steps.{_⊕_, _⊖_, _⊗_, zero32, one32, two32, three32, times2, squareAt, same, minus, interp}
 
 abbrev pub cubicOf : List Float → Cubic

@@ -11,7 +11,8 @@ use Rattle.quad_roots.specs.Roots.{dividedOf}
 use Rattle.curves.specs.declared.quad.Quad.{Quad}
 use Rattle.curves.specs.declared.quad.Curvature.{Curvature}
 use Rattle.curves.specs.declared.quad.Curvature.the-variants.{At, Undefined, Short}
-use Rattle.curves.specs.Lent.{pointOf, flat}
+use Rattle.point.specs.Point.{flat}
+use Rattle.curves.specs.Lent.{pointOf}
 use Rattle.curves.specs.Steps.{_⊕_, _⊖_, _⊗_, zero32, one32, times2, squareAt, same, minus, interp}
 
 abbrev pub quadOf : List Float → Quad

@@ -12,11 +12,12 @@ use Rattle.transform.specs.declared.Transform.{Transform}
 use Rattle.transform.specs.Row.{zero, one, rowOf}
 use Rattle.transform.specs.Kinds.{isIdentity, hasOnly}
 use Rattle.transform.specs.Mapped.{mapPoint}
-use Rattle.mapping.specs.Numbers.{mapPairs, refusalOf, numbersOf, flat}
+use Rattle.point.specs.Point.{flat}
+use Rattle.mapping.specs.Numbers.{mapPairs, refusalOf, numbersOf}
 
 module _ (f : Point → Point) where
   pairs-flat : (ps : List Point) → mapPairs f (flat ps) ≡ flat (map f ps)
-  unfolding mapPairs
+  unfolding mapPairs flat
   pairs-flat [] = refl
   pairs-flat (p ∷ ps) = ap (λ (l : List Float). f p .x ∷ f p .y ∷ l) (pairs-flat ps)
 
@@ -32,6 +33,7 @@ module _ (f : Point → Point) where
     pairs-keep (x ∷ y ∷ l) = rw (keeps (record { x = x; y = y }), pairs-keep l)
 
 flat-even : (ps : List Point) → length (flat ps) % 2 ≡ 0
+unfolding flat
 flat-even [] = refl
 flat-even (p ∷ ps) = omega (arith, flat-even ps)
 

@@ -32,8 +32,3 @@ mappingOf refusal = cond (eqb refusal 0) Mapped OddLength
 
 abbrev pub numbersOf : ℕ → Transform → List Float → List Float
 numbersOf refusal t l = cond (eqb refusal 0) (mapPairs (mapPoint t) l) l
-
--- the numbers of points
-abbrev pub flat : List Point → List Float
-flat [] = []
-flat (p ∷ ps) = p .x ∷ p .y ∷ flat ps

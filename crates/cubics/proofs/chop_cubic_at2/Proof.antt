@@ -4,6 +4,7 @@ use borrow.Author.Needs.{needs}
 use borrow.Author.Tests.{lt-ltb, le-ltb}
 use lib.ListN.{length}
 use lib.Ieee.{Float}
+use Rattle.point.specs.Point.{flat}
 use Rattle.cubics.specs.declared.Cubic.{Cubic}
 use Rattle.cubics.specs.Cubics.{cubicChop}
 use Rattle.quad_roots.proofs.Asks.{nothing}
@@ -11,7 +12,7 @@ use Rattle.cubics.proofs.chop_cubic_at2.Statement.{statement}
 use Rattle.cubics.proofs.chop_cubic_at2.Tie as tie
 
 chop-length : (q : Cubic) (t : Float) → length (cubicChop q t) ≡ 14
-unfolding cubicChop
+unfolding cubicChop flat
 chop-length q t = refl
 
 done : tie.Need-returns-3

@@ -4,6 +4,7 @@ use borrow.Author.Needs.{needs}
 use borrow.Author.Tests.{lt-ltb, le-ltb}
 use lib.ListN.{length}
 use lib.Ieee.{Float}
+use Rattle.point.specs.Point.{flat}
 use Rattle.curves.specs.declared.quad.Quad.{Quad}
 use Rattle.curves.specs.Quads.{quadChop}
 use Rattle.quad_roots.proofs.Asks.{nothing}
@@ -11,7 +12,7 @@ use Rattle.curves.proofs.quad.chop_quad_at.Statement.{statement}
 use Rattle.curves.proofs.quad.chop_quad_at.Tie as tie
 
 chop-length : (q : Quad) (t : Float) → length (quadChop q t) ≡ 10
-unfolding quadChop
+unfolding quadChop flat
 chop-length q t = refl
 
 done : tie.Need-returns-3
