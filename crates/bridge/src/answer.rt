@@ -19,7 +19,7 @@ fn heading(line: u64) {
 
 // Writes v without the blanks in front of it.
 fn coordinate(v: f32) {
-    let t = bridge_lines::text(v);
+    let t = bridge_text::text(v);
     let mut i = 0;
     while i < 13 && t[i] == b' ' {
         i += 1;

@@ -1,4 +1,2 @@
 pub mod Number
 pub mod Reading
-pub mod Text
-pub mod Thousandths

@@ -13,16 +13,74 @@ use Rattle.bridge_lines.specs.declared.Line.{Line}
 use Rattle.bridge_lines.specs.declared.Line.the-variants.{Good, Blank, Bad}
 use Rattle.bridge_lines.specs.declared.steps.Phase.{Phase}
 use Rattle.bridge_lines.specs.declared.steps.Phase.the-variants.{Gap, Sign, Whole, Dot, Decimals, Done, Comment, Wrong}
+use Rattle.bridge_lines.specs.declared.steps.Number.{Number}
 use Rattle.bridge_lines.specs.declared.steps.State.{State}
 use Rattle.bridge_lines.specs.Number.{isDigit, isBlank, moreOf, tenfoldOf, limitOf, valueOf}
 
--- ---- the states
+-- ---- the number at hand
 
-abbrev pub state : Phase → ℕ → Bool → ℕ → ℕ → Conic → State
-state p place negative size scale c = record { phase = p; place = place; negative = negative; size = size; scale = scale; conic = c }
+abbrev pub number : Phase → ℕ → Bool → ℕ → ℕ → Number
+number p place negative size scale = record { phase = p; place = place; negative = negative; size = size; scale = scale }
 
-abbrev pub toOf : State → Phase → State
-toOf s p = state p (s .place) (s .negative) (s .size) (s .scale) (s .conic)
+abbrev pub freshOf : ℕ → Number
+freshOf place = number Gap place false 0 1
+
+abbrev pub toOf : Number → Phase → Number
+toOf n p = number p (n .place) (n .negative) (n .size) (n .scale)
+
+-- it ends: out of range where it is too large or has more than 6 decimals
+abbrev pub closedOf : Number → Number
+closedOf n =
+    cond (ltb (limitOf (n .place)) (n .size) || ltb 1000000 (n .scale)) (toOf n (Wrong OutOfRange))
+    (cond (ltb 7 (n .place)) (toOf n Done) (freshOf (n .place + 1)))
+
+-- ---- what a byte makes of it, phase by phase
+
+abbrev pub wholeOf : Number → ℕ → Number
+wholeOf n b = number Whole (n .place) (n .negative) (moreOf (n .size) b) (n .scale)
+
+abbrev pub decimalsOf : Number → ℕ → Number
+decimalsOf n b = number Decimals (n .place) (n .negative) (moreOf (n .size) b) (tenfoldOf (n .scale))
+
+abbrev pub gapOf : Number → ℕ → Number
+gapOf n b =
+    cond (isBlank b) n
+    (cond (isDigit b) (wholeOf n b)
+    (cond (eqb b 45 && ltb (n .place) 8) (number Sign (n .place) true (n .size) (n .scale))
+    (cond (eqb b 35 && eqb (n .place) 1) (toOf n Comment) (toOf n (Wrong NoNumber)))))
+
+abbrev pub signOf : Number → ℕ → Number
+signOf n b = cond (isDigit b) (wholeOf n b) (toOf n (Wrong NoNumber))
+
+abbrev pub inWholeOf : Number → ℕ → Number
+inWholeOf n b =
+    cond (isDigit b) (wholeOf n b)
+    (cond (isBlank b) (closedOf n) (cond (eqb b 46 && eqb (n .place) 7) (toOf n Dot) (toOf n (Wrong NoNumber))))
+
+abbrev pub dotOf : Number → ℕ → Number
+dotOf n b = cond (isDigit b) (decimalsOf n b) (toOf n (Wrong NoNumber))
+
+abbrev pub inDecimalsOf : Number → ℕ → Number
+inDecimalsOf n b = cond (isDigit b) (decimalsOf n b) (cond (isBlank b) (closedOf n) (toOf n (Wrong NoNumber)))
+
+abbrev pub doneOf : Number → ℕ → Number
+doneOf n b = cond (isBlank b) n (toOf n (Wrong TooMany))
+
+unfoldable pub advancedIn : Phase → Number → ℕ → Number
+advancedIn Gap n b = gapOf n b
+advancedIn Sign n b = signOf n b
+advancedIn Whole n b = inWholeOf n b
+advancedIn Dot n b = dotOf n b
+advancedIn Decimals n b = inDecimalsOf n b
+advancedIn Done n b = doneOf n b
+advancedIn Comment n b = n
+advancedIn (Wrong why) n b = n
+
+unfoldable pub advancedOf : Number → ℕ → Number
+unfolding advancedIn
+advancedOf n b = advancedIn (n .phase) n b
+
+-- ---- the state: a number that ends moves the place on, and goes into the conic
 
 abbrev pub point : Float → Float → Point
 point x y = record { x = x; y = y }
@@ -35,90 +93,38 @@ takenOf c v =
 abbrev pub zero : Float
 zero = ofBits binary32 0
 
--- between numbers, at a place, with these numbers before it
-abbrev pub atGap : ℕ → Conic → State
-atGap place c = state Gap place false 0 1 c
-
 abbrev pub startOf : State
-startOf = atGap 1 (record { p0 = point zero zero; p1 = point zero zero; p2 = point zero zero; weight = zero })
+startOf =
+    record { number = freshOf 1; conic = record { p0 = point zero zero; p1 = point zero zero; p2 = point zero zero; weight = zero } }
 
--- ---- a number that ends: one that is too large or has more than 6 decimals is out of range
-
-abbrev pub closedOf : State → State
-closedOf s =
-    cond (ltb (limitOf (s .place)) (s .size) || ltb 1000000 (s .scale)) (toOf s (Wrong OutOfRange))
-    (cond (ltb 7 (s .place)) (toOf s Done)
-    (atGap (s .place + 1) (takenOf (s .conic) (valueOf (s .negative) (s .size) (s .scale)))))
-
--- ---- what a byte makes of a state, phase by phase
-
-abbrev pub wholeOf : State → ℕ → State
-wholeOf s b = state Whole (s .place) (s .negative) (moreOf (s .size) b) (s .scale) (s .conic)
-
-abbrev pub decimalsOf : State → ℕ → State
-decimalsOf s b = state Decimals (s .place) (s .negative) (moreOf (s .size) b) (tenfoldOf (s .scale)) (s .conic)
-
-abbrev pub signedOf : State → State
-signedOf s = cond (ltb 7 (s .place)) (toOf s (Wrong NoNumber)) (state Sign (s .place) true (s .size) (s .scale) (s .conic))
-
-abbrev pub gapOf : State → ℕ → State
-gapOf s b =
-    cond (isBlank b) s
-    (cond (isDigit b) (wholeOf s b)
-    (cond (eqb b 45) (signedOf s) (cond (eqb b 35 && eqb (s .place) 1) (toOf s Comment) (toOf s (Wrong NoNumber)))))
-
-abbrev pub signOf : State → ℕ → State
-signOf s b = cond (isDigit b) (wholeOf s b) (toOf s (Wrong NoNumber))
-
-abbrev pub inWholeOf : State → ℕ → State
-inWholeOf s b =
-    cond (isDigit b) (wholeOf s b)
-    (cond (isBlank b) (closedOf s) (cond (eqb b 46 && eqb (s .place) 7) (toOf s Dot) (toOf s (Wrong NoNumber))))
-
-abbrev pub dotOf : State → ℕ → State
-dotOf s b = cond (isDigit b) (decimalsOf s b) (toOf s (Wrong NoNumber))
-
-abbrev pub inDecimalsOf : State → ℕ → State
-inDecimalsOf s b = cond (isDigit b) (decimalsOf s b) (cond (isBlank b) (closedOf s) (toOf s (Wrong NoNumber)))
-
-abbrev pub doneOf : State → ℕ → State
-doneOf s b = cond (isBlank b) s (toOf s (Wrong TooMany))
-
-unfoldable pub stepIn : Phase → State → ℕ → State
-stepIn Gap s b = gapOf s b
-stepIn Sign s b = signOf s b
-stepIn Whole s b = inWholeOf s b
-stepIn Dot s b = dotOf s b
-stepIn Decimals s b = inDecimalsOf s b
-stepIn Done s b = doneOf s b
-stepIn Comment s b = s
-stepIn (Wrong why) s b = s
+abbrev pub conicAfter : Number → Number → Conic → Conic
+conicAfter n m c = cond (ltb (n .place) (m .place)) (takenOf c (valueOf (n .negative) (n .size) (n .scale))) c
 
 unfoldable pub stepOf : State → ℕ → State
-unfolding stepIn
-stepOf s b = stepIn (s .phase) s b
+unfolding advancedOf
+stepOf s b = record { number = advancedOf (s .number) b; conic = conicAfter (s .number) (advancedOf (s .number) b) (s .conic) }
 
 unfoldable pub stepsOf : State → List ℕ → State
 unfolding stepOf
 stepsOf s [] = s
 stepsOf s (b ∷ l) = stepsOf (stepOf s b) l
 
--- ---- what a line comes to, where its end counts as a blank
+-- ---- what a line comes to: its end counts as a blank
 
-unfoldable pub answerIn : Phase → State → Line
-answerIn Gap s = cond (eqb (s .place) 1) Blank (Bad (s .place) TooFew)
-answerIn Sign s = Bad (s .place) NoNumber
-answerIn Whole s = Bad (s .place) NoNumber
-answerIn Dot s = Bad (s .place) NoNumber
-answerIn Decimals s = Bad (s .place) NoNumber
-answerIn Done s = Good (record { conic = s .conic; level = s .size })
-answerIn Comment s = Blank
-answerIn (Wrong why) s = Bad (s .place) why
+unfoldable pub answerIn : Phase → Number → Conic → Line
+answerIn Gap n c = cond (eqb (n .place) 1) Blank (Bad (n .place) TooFew)
+answerIn Sign n c = Bad (n .place) NoNumber
+answerIn Whole n c = Bad (n .place) NoNumber
+answerIn Dot n c = Bad (n .place) NoNumber
+answerIn Decimals n c = Bad (n .place) NoNumber
+answerIn Done n c = Good (record { conic = c; level = n .size })
+answerIn Comment n c = Blank
+answerIn (Wrong why) n c = Bad (n .place) why
 
 unfoldable pub toldOf : State → Line
-unfolding answerIn stepOf
-toldOf s = answerIn (stepOf s 32 .phase) (stepOf s 32)
+unfolding answerIn
+toldOf s = answerIn (s .number .phase) (s .number) (s .conic)
 
 unfoldable pub readOf : List ℕ → Line
-unfolding toldOf stepsOf
-readOf line = cond (ltb 256 (length line)) (Bad 1 TooLong) (toldOf (stepsOf startOf line))
+unfolding toldOf stepOf stepsOf
+readOf line = cond (ltb 256 (length line)) (Bad 1 TooLong) (toldOf (stepOf (stepsOf startOf line) 32))

@@ -1,15 +1,12 @@
-// Bridges as lines of text: a line is read to a bridge or to what is wrong with it, and a coordinate is written out.
+// Bridges as lines of text: a line is read to a bridge or to what is wrong with it.
 ghost use mathlib.Core.Path.{_≡_};
 ghost use Rattle.conic.specs.Refusal.{numberOf};
 ghost use Rattle.bridge_lines.specs.Reading.{readOf};
-ghost use Rattle.bridge_lines.specs.Text.{textOf};
 use conic::Conic;
 use conic::Refusal;
 
-mod columns;
 mod number;
 mod steps;
-mod thousandths;
 
 // What is wrong with a line: a number that is none (or no whole one, or has a sign, where that is asked for),
 // one that is too large or has too many decimals, fewer than eight numbers, more, or more than 256 bytes.
@@ -34,7 +31,7 @@ pub enum Line {
     Bad(u32, Fault),
 }
 
-// Reads a line, without its newline: `x0 y0 x1 y1 x2 y2 weight level`. The coordinates are whole and at most
+// Reads a line, without its newline, for which a blank is read: `x0 y0 x1 y1 x2 y2 weight level`. The coordinates are whole and at most
 // 2^24 in size, the weight has at most 7 digits and may have a point, the level has at most 9 digits.
 pub fn read(line: &[u8]) -> Line
     ensures { λ r. ⌜ r ≡ readOf (now (line .entry)) ⌝ }
@@ -48,15 +45,7 @@ pub fn read(line: &[u8]) -> Line
         s = steps::step(s, line[i]);
         i += 1;
     }
-    steps::told(s)
-}
-
-// v with three decimals, at the right of 14 columns, half a thousandth rounded up in size; `beyond` where that is
-// no number below 10^9.
-pub fn text(v: f32) -> [u8; 14]
-    ensures { λ r. ⌜ r ≡ textOf v ⌝ }
-{
-    columns::text(v)
+    steps::told(steps::step(s, b' '))
 }
 
 // The number that a refusal has in the library's table.

@@ -1,6 +1,6 @@
 // A line is read byte by byte, from state to state.
 ghost use mathlib.Core.Path.{_≡_};
-ghost use Rattle.bridge_lines.specs.Reading.{toOf, takenOf, closedOf, wholeOf, decimalsOf, gapOf, signOf, inWholeOf, dotOf, inDecimalsOf, signedOf, doneOf, stepOf, startOf, toldOf};
+ghost use Rattle.bridge_lines.specs.Reading.{freshOf, toOf, takenOf, closedOf, wholeOf, decimalsOf, gapOf, signOf, inWholeOf, dotOf, inDecimalsOf, doneOf, advancedOf, stepOf, startOf, toldOf};
 use crate::Bridge;
 use crate::Fault;
 use crate::Line;
@@ -21,49 +21,187 @@ pub enum Phase {
     Wrong(Fault),
 }
 
-// The number at hand is size / scale, at its place from 1 to 8. Those before it are the conic's last.
-pub struct State {
+// The number at hand: size / scale, at its place from 1 to 8.
+pub struct Number {
     pub phase: Phase,
     pub place: u32,
     pub negative: bool,
     pub size: u32,
     pub scale: u32,
+}
+
+// The number at hand, and those before it, which are the conic's last.
+pub struct State {
+    pub number: Number,
     pub conic: Conic,
 }
 
-// Before the first byte.
-pub fn start() -> State
-    ensures { λ r. ⌜ r ≡ startOf ⌝ }
+// Before the number of a place.
+fn fresh(place: u32) -> Number
+    ensures { λ r. ⌜ r ≡ freshOf place ⌝ }
 {
-    let zero = Point { x: 0.0, y: 0.0 };
-    let conic = Conic {
-        p0: zero,
-        p1: zero,
-        p2: zero,
-        weight: 0.0,
-    };
-    State {
+    Number {
         phase: Phase::Gap,
-        place: 1,
+        place,
         negative: false,
         size: 0,
         scale: 1,
-        conic,
     }
 }
 
-// s in another phase.
-fn to(s: State, phase: Phase) -> State
-    ensures { λ r. ⌜ r ≡ toOf s phase ⌝ }
+// n in another phase.
+fn to(n: Number, phase: Phase) -> Number
+    ensures { λ r. ⌜ r ≡ toOf n phase ⌝ }
 {
-    let conic = s.conic;
-    State {
+    Number {
         phase,
-        place: s.place,
-        negative: s.negative,
-        size: s.size,
-        scale: s.scale,
-        conic,
+        place: n.place,
+        negative: n.negative,
+        size: n.size,
+        scale: n.scale,
+    }
+}
+
+// Past the number at hand. After the eighth it stays, since its size is the level.
+fn closed(n: Number) -> Number
+    ensures { λ r. ⌜ r ≡ closedOf n ⌝ }
+{
+    if (number::limit(n.place) < n.size) | (1000000 < n.scale) {
+        return to(n, Phase::Wrong(Fault::OutOfRange));
+    }
+    if n.place > 7 {
+        return to(n, Phase::Done);
+    }
+    fresh(n.place + 1)
+}
+
+// One digit more before the point.
+fn whole(n: Number, b: u8) -> Number
+    ensures { λ r. ⌜ r ≡ wholeOf n b ⌝ }
+{
+    Number {
+        phase: Phase::Whole,
+        place: n.place,
+        negative: n.negative,
+        size: number::more(n.size, b),
+        scale: n.scale,
+    }
+}
+
+// One digit more after the point.
+fn decimals(n: Number, b: u8) -> Number
+    ensures { λ r. ⌜ r ≡ decimalsOf n b ⌝ }
+{
+    Number {
+        phase: Phase::Decimals,
+        place: n.place,
+        negative: n.negative,
+        size: number::more(n.size, b),
+        scale: number::tenfold(n.scale),
+    }
+}
+
+// The byte b between numbers. The level takes no minus, and a comment is only before the first number.
+fn gap(n: Number, b: u8) -> Number
+    ensures { λ r. ⌜ r ≡ gapOf n b ⌝ }
+{
+    if number::is_blank(b) {
+        return n;
+    }
+    if number::is_digit(b) {
+        return whole(n, b);
+    }
+    if (b == b'-') & (n.place < 8) {
+        return Number {
+            phase: Phase::Sign,
+            place: n.place,
+            negative: true,
+            size: n.size,
+            scale: n.scale,
+        };
+    }
+    if (b == b'#') & (n.place == 1) {
+        return to(n, Phase::Comment);
+    }
+    to(n, Phase::Wrong(Fault::NoNumber))
+}
+
+// The byte b past a sign.
+fn sign(n: Number, b: u8) -> Number
+    ensures { λ r. ⌜ r ≡ signOf n b ⌝ }
+{
+    if number::is_digit(b) {
+        whole(n, b)
+    } else {
+        to(n, Phase::Wrong(Fault::NoNumber))
+    }
+}
+
+// The byte b past a digit of a whole number. A point is only in the weight.
+fn in_whole(n: Number, b: u8) -> Number
+    ensures { λ r. ⌜ r ≡ inWholeOf n b ⌝ }
+{
+    if number::is_digit(b) {
+        return whole(n, b);
+    }
+    if number::is_blank(b) {
+        return closed(n);
+    }
+    if (b == b'.') & (n.place == 7) {
+        return to(n, Phase::Dot);
+    }
+    to(n, Phase::Wrong(Fault::NoNumber))
+}
+
+// The byte b past a point.
+fn dot(n: Number, b: u8) -> Number
+    ensures { λ r. ⌜ r ≡ dotOf n b ⌝ }
+{
+    if number::is_digit(b) {
+        decimals(n, b)
+    } else {
+        to(n, Phase::Wrong(Fault::NoNumber))
+    }
+}
+
+// The byte b past a decimal.
+fn in_decimals(n: Number, b: u8) -> Number
+    ensures { λ r. ⌜ r ≡ inDecimalsOf n b ⌝ }
+{
+    if number::is_digit(b) {
+        return decimals(n, b);
+    }
+    if number::is_blank(b) {
+        return closed(n);
+    }
+    to(n, Phase::Wrong(Fault::NoNumber))
+}
+
+// The byte b past the eighth number.
+fn done(n: Number, b: u8) -> Number
+    ensures { λ r. ⌜ r ≡ doneOf n b ⌝ }
+{
+    if number::is_blank(b) {
+        n
+    } else {
+        to(n, Phase::Wrong(Fault::TooMany))
+    }
+}
+
+// The number at hand past the byte b.
+fn advanced(n: Number, b: u8) -> Number
+    ensures { λ r. ⌜ r ≡ advancedOf n b ⌝ }
+{
+    let phase = n.phase;
+    match phase {
+        Phase::Gap => gap(n, b),
+        Phase::Sign => sign(n, b),
+        Phase::Whole => in_whole(n, b),
+        Phase::Dot => dot(n, b),
+        Phase::Decimals => in_decimals(n, b),
+        Phase::Done => done(n, b),
+        Phase::Comment => n,
+        Phase::Wrong(_) => n,
     }
 }
 
@@ -88,200 +226,61 @@ fn taken(c: Conic, v: f32) -> Conic
     }
 }
 
-// Past the number at hand: the first seven go into the conic, the eighth stays as the size.
-fn closed(s: State) -> State
-    ensures { λ r. ⌜ r ≡ closedOf s ⌝ }
+// Before the first byte.
+pub fn start() -> State
+    ensures { λ r. ⌜ r ≡ startOf ⌝ }
 {
-    if (number::limit(s.place) < s.size) | (1000000 < s.scale) {
-        return to(s, Phase::Wrong(Fault::OutOfRange));
-    }
-    if s.place > 7 {
-        return to(s, Phase::Done);
-    }
-    let conic = taken(s.conic, number::value(s.negative, s.size, s.scale));
+    let zero = Point { x: 0.0, y: 0.0 };
+    let conic = Conic {
+        p0: zero,
+        p1: zero,
+        p2: zero,
+        weight: 0.0,
+    };
     State {
-        phase: Phase::Gap,
-        place: s.place + 1,
-        negative: false,
-        size: 0,
-        scale: 1,
+        number: fresh(1),
         conic,
     }
 }
 
-// One digit more before the point.
-fn whole(s: State, b: u8) -> State
-    ensures { λ r. ⌜ r ≡ wholeOf s b ⌝ }
-{
-    let conic = s.conic;
-    State {
-        phase: Phase::Whole,
-        place: s.place,
-        negative: s.negative,
-        size: number::more(s.size, b),
-        scale: s.scale,
-        conic,
-    }
-}
-
-// One digit more after the point.
-fn decimals(s: State, b: u8) -> State
-    ensures { λ r. ⌜ r ≡ decimalsOf s b ⌝ }
-{
-    let conic = s.conic;
-    State {
-        phase: Phase::Decimals,
-        place: s.place,
-        negative: s.negative,
-        size: number::more(s.size, b),
-        scale: number::tenfold(s.scale),
-        conic,
-    }
-}
-
-// A minus before the number at hand; the level takes none.
-fn signed(s: State) -> State
-    ensures { λ r. ⌜ r ≡ signedOf s ⌝ }
-{
-    if s.place > 7 {
-        return to(s, Phase::Wrong(Fault::NoNumber));
-    }
-    let conic = s.conic;
-    State {
-        phase: Phase::Sign,
-        place: s.place,
-        negative: true,
-        size: s.size,
-        scale: s.scale,
-        conic,
-    }
-}
-
-// The byte b between numbers. A comment is only before the first.
-fn gap(s: State, b: u8) -> State
-    ensures { λ r. ⌜ r ≡ gapOf s b ⌝ }
-{
-    if number::is_blank(b) {
-        return s;
-    }
-    if number::is_digit(b) {
-        return whole(s, b);
-    }
-    if b == b'-' {
-        return signed(s);
-    }
-    if (b == b'#') & (s.place == 1) {
-        return to(s, Phase::Comment);
-    }
-    to(s, Phase::Wrong(Fault::NoNumber))
-}
-
-// The byte b past a sign.
-fn sign(s: State, b: u8) -> State
-    ensures { λ r. ⌜ r ≡ signOf s b ⌝ }
-{
-    if number::is_digit(b) {
-        whole(s, b)
-    } else {
-        to(s, Phase::Wrong(Fault::NoNumber))
-    }
-}
-
-// The byte b past a digit of a whole number. A point is only in the weight.
-fn in_whole(s: State, b: u8) -> State
-    ensures { λ r. ⌜ r ≡ inWholeOf s b ⌝ }
-{
-    if number::is_digit(b) {
-        return whole(s, b);
-    }
-    if number::is_blank(b) {
-        return closed(s);
-    }
-    if (b == b'.') & (s.place == 7) {
-        return to(s, Phase::Dot);
-    }
-    to(s, Phase::Wrong(Fault::NoNumber))
-}
-
-// The byte b past a point.
-fn dot(s: State, b: u8) -> State
-    ensures { λ r. ⌜ r ≡ dotOf s b ⌝ }
-{
-    if number::is_digit(b) {
-        decimals(s, b)
-    } else {
-        to(s, Phase::Wrong(Fault::NoNumber))
-    }
-}
-
-// The byte b past a decimal.
-fn in_decimals(s: State, b: u8) -> State
-    ensures { λ r. ⌜ r ≡ inDecimalsOf s b ⌝ }
-{
-    if number::is_digit(b) {
-        return decimals(s, b);
-    }
-    if number::is_blank(b) {
-        return closed(s);
-    }
-    to(s, Phase::Wrong(Fault::NoNumber))
-}
-
-// The byte b past the eighth number.
-fn done(s: State, b: u8) -> State
-    ensures { λ r. ⌜ r ≡ doneOf s b ⌝ }
-{
-    if number::is_blank(b) {
-        s
-    } else {
-        to(s, Phase::Wrong(Fault::TooMany))
-    }
-}
-
-// The state past the byte b.
+// The state past the byte b. A number that ends moves the place on, and goes into the conic.
 pub fn step(s: State, b: u8) -> State
     ensures { λ r. ⌜ r ≡ stepOf s b ⌝ }
 {
-    let phase = s.phase;
-    match phase {
-        Phase::Gap => gap(s, b),
-        Phase::Sign => sign(s, b),
-        Phase::Whole => in_whole(s, b),
-        Phase::Dot => dot(s, b),
-        Phase::Decimals => in_decimals(s, b),
-        Phase::Done => done(s, b),
-        Phase::Comment => s,
-        Phase::Wrong(_) => s,
+    let n = s.number;
+    let number = advanced(n, b);
+    let conic = s.conic;
+    if n.place < number.place {
+        let conic = taken(conic, number::value(n.negative, n.size, n.scale));
+        return State { number, conic };
     }
+    State { number, conic }
 }
 
-// What the line comes to where it ends; its end closes a number, as a blank does.
+// What the line comes to past its last blank.
 pub fn told(s: State) -> Line
     ensures { λ r. ⌜ r ≡ toldOf s ⌝ }
 {
-    let t = step(s, b' ');
-    let phase = t.phase;
-    let place = t.place;
+    let conic = s.conic;
+    let n = s.number;
+    let phase = n.phase;
     match phase {
         Phase::Gap => {
-            if place == 1 {
+            if n.place == 1 {
                 Line::Blank
             } else {
-                Line::Bad(place, Fault::TooFew)
+                Line::Bad(n.place, Fault::TooFew)
             }
         }
-        Phase::Sign => Line::Bad(place, Fault::NoNumber),
-        Phase::Whole => Line::Bad(place, Fault::NoNumber),
-        Phase::Dot => Line::Bad(place, Fault::NoNumber),
-        Phase::Decimals => Line::Bad(place, Fault::NoNumber),
-        Phase::Done => {
-            let conic = t.conic;
-            Line::Good(Bridge {
-                conic,
-                level: t.size,
-            })
-        }
+        Phase::Sign => Line::Bad(n.place, Fault::NoNumber),
+        Phase::Whole => Line::Bad(n.place, Fault::NoNumber),
+        Phase::Dot => Line::Bad(n.place, Fault::NoNumber),
+        Phase::Decimals => Line::Bad(n.place, Fault::NoNumber),
+        Phase::Done => Line::Good(Bridge {
+            conic,
+            level: n.size,
+        }),
         Phase::Comment => Line::Blank,
-        Phase::Wrong(why) => Line::Bad(place, why),
+        Phase::Wrong(why) => Line::Bad(n.place, why),
     }
 }

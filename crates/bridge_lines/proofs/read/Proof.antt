@@ -1,13 +1,12 @@
 -- `read` meets its contract: what is left of the line leads from the state at hand to where the whole line leads from the start. Assumes nothing.
 use Prim.Native.Nat.{_≤_, _<_, _-_}
+use mathlib.Core.Path.{_≡_, ap, _∙_}
 use native.Mathlib.Numerals.{add-one}
-use lib.Seq.{drop-cons, drop-length}
--- `read` meets its contract: what is left of the line leads from the state at hand to where the whole line leads from the start. Assumes nothing.
-use mathlib.Core.Path.{_≡_, ap}
 use native.Mathlib.Omega.{arith}
 use lib.ListN.{length, drop}
+use lib.Seq.{drop-cons, drop-length}
 use borrow.Author.Tests.{lt-ltb, le-ltb}
-use Rattle.bridge_lines.specs.Reading.{startOf, stepsOf, readOf}
+use Rattle.bridge_lines.specs.Reading.{startOf, stepsOf, toldOf, readOf}
 use Rattle.bridge_lines.specs.declared.steps.State.{State}
 use Rattle.bridge_lines.proofs.read.Statement.{statement}
 use Rattle.bridge_lines.proofs.read.Tie as tie
@@ -47,14 +46,17 @@ loop-again c =
     let h : c .before .before .before .loop .i < length (c .before .before .before .before .before .before .before .args .line .now) = omega arith in
     (omega arith, rw (c .step .ensures, add-one) (rw (drop-cons (c .before .before .before .before .before .before .before .args .line .now) (c .before .before .before .loop .i) 0) at (c .before .before .before .loop .inv .1)))
 
+step-requires-2 : tie.Need-step-requires-2 Inv-loop μ-loop
+step-requires-2 c κs = tt
+
 told-requires : tie.Need-told-requires Inv-loop μ-loop
 told-requires c κs = tt
 
 returns-2 : tie.Need-returns-2 Inv-loop μ-loop
 unfolding stepsOf readOf
 returns-2 c =
-    let e : c .before .before .loop .i ≡ length (c .before .before .before .before .before .before .args .line .now) = omega arith in
-    rw (le-ltb _ _ (c .before .before .before .before .if1 .left), ← c .before .before .loop .inv .1, e, drop-length) (c .told .ensures)
+    let e : c .before .before .before .loop .i ≡ length (c .before .before .before .before .before .before .before .args .line .now) = omega arith in
+    rw (le-ltb _ _ (c .before .before .before .before .before .if1 .left), ← c .before .before .before .loop .inv .1, e, drop-length) (c .told .ensures ∙ ap toldOf (c .before .step2 .ensures))
 
 pub read-spec : {M : Type 1} → statement M
 read-spec =
@@ -70,5 +72,6 @@ read-spec =
     add-i
     loop-less
     loop-again
+    step-requires-2
     told-requires
     returns-2)

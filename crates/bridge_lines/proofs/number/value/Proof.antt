@@ -1,14 +1,13 @@
 -- `number::value` meets its contract: the sign picks the quotient or its negative. Assumes nothing.
 use Rattle.bridge_lines.specs.Number.{valueOf}
-use borrow.Author.Needs.{needs}
 use Rattle.bridge_lines.proofs.number.value.Statement.{statement}
 use Rattle.bridge_lines.proofs.number.value.Tie as tie
 
 nearest-u32-to-f32-requires : tie.Need-nearest-u32-to-f32-requires
-nearest-u32-to-f32-requires c κs = search needs
+nearest-u32-to-f32-requires c κs = tt
 
 nearest-u32-to-f32-requires-2 : tie.Need-nearest-u32-to-f32-requires-2
-nearest-u32-to-f32-requires-2 c κs = search needs
+nearest-u32-to-f32-requires-2 c κs = tt
 
 returns : tie.Need-returns
 unfolding valueOf

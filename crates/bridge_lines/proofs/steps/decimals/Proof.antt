@@ -1,13 +1,12 @@
 -- `steps::decimals` meets its contract. Assumes nothing.
-use borrow.Author.Needs.{needs}
 use Rattle.bridge_lines.proofs.steps.decimals.Statement.{statement}
 use Rattle.bridge_lines.proofs.steps.decimals.Tie as tie
 
 more-requires : tie.Need-more-requires
-more-requires c κs = search needs
+more-requires c κs = tt
 
 tenfold-requires : tie.Need-tenfold-requires
-tenfold-requires c κs = search needs
+tenfold-requires c κs = tt
 
 returns : tie.Need-returns
 returns c = cc

@@ -1,14 +1,13 @@
 -- `steps::done` meets its contract: each answer goes by the test that led to it. Assumes nothing.
 use mathlib.Core.Path.{_∙_}
-use borrow.Author.Needs.{needs}
 use Rattle.bridge_lines.proofs.steps.done.Statement.{statement}
 use Rattle.bridge_lines.proofs.steps.done.Tie as tie
 
 is-blank-requires : tie.Need-is-blank-requires
-is-blank-requires c κs = search needs
+is-blank-requires c κs = tt
 
 to-requires : tie.Need-to-requires
-to-requires c κs = search needs
+to-requires c κs = tt
 
 returns : tie.Need-returns
 returns c = rw (← c .before .is-blank .ensures, c .if1 .taken)

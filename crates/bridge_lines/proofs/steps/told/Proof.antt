@@ -1,12 +1,9 @@
--- `steps::told` meets its contract: the state past a last blank tells what the line comes to. Assumes nothing.
+-- `steps::told` meets its contract: the phase tells what the line comes to. Assumes nothing.
 use borrow.Author.Tests.{eq-eqb, ne-eqb}
 use Rattle.bridge_lines.specs.Reading.{answerIn, toldOf}
 use borrow.Author.Needs.{needs}
 use Rattle.bridge_lines.proofs.steps.told.Statement.{statement}
 use Rattle.bridge_lines.proofs.steps.told.Tie as tie
-
-step-requires : tie.Need-step-requires
-step-requires c κs = search needs
 
 enum-told : tie.Need-enum-told
 enum-told c = search needs
@@ -34,45 +31,44 @@ enum-known-phase c = search needs
 
 returns : tie.Need-returns
 unfolding answerIn toldOf
-returns c = rw (← c .before .before .before .step .ensures, c .before .enum-told .given .1, eq-eqb _ _ (c .if1 .taken))
+returns c = rw (c .before .before .enum-told .given .1, eq-eqb _ _ (c .if1 .taken))
 
 returns-2 : tie.Need-returns-2
 unfolding answerIn toldOf
-returns-2 c = rw (← c .before .before .before .step .ensures, c .before .enum-told .given .1, ne-eqb _ _ (c .if1 .left))
+returns-2 c = rw (c .before .before .enum-told .given .1, ne-eqb _ _ (c .if1 .left))
 
 returns-3 : tie.Need-returns-3
 unfolding answerIn toldOf
-returns-3 c = rw (← c .before .before .step .ensures, c .enum-told2 .given .1)
+returns-3 c = rw (c .enum-told2 .given .1)
 
 returns-4 : tie.Need-returns-4
 unfolding answerIn toldOf
-returns-4 c = rw (← c .before .before .step .ensures, c .enum-told3 .given .1)
+returns-4 c = rw (c .enum-told3 .given .1)
 
 returns-5 : tie.Need-returns-5
 unfolding answerIn toldOf
-returns-5 c = rw (← c .before .before .step .ensures, c .enum-told4 .given .1)
+returns-5 c = rw (c .enum-told4 .given .1)
 
 returns-6 : tie.Need-returns-6
 unfolding answerIn toldOf
-returns-6 c = rw (← c .before .before .step .ensures, c .enum-told5 .given .1)
+returns-6 c = rw (c .enum-told5 .given .1)
 
 returns-7 : tie.Need-returns-7
 unfolding answerIn toldOf
-returns-7 c = rw (← c .before .before .before .step .ensures, c .before .enum-told6 .given .1)
+returns-7 c = rw (c .enum-told6 .given .1)
 
 returns-8 : tie.Need-returns-8
 unfolding answerIn toldOf
-returns-8 c = rw (← c .before .before .step .ensures, c .enum-told7 .given .1)
+returns-8 c = rw (c .enum-told7 .given .1)
 
 returns-9 : tie.Need-returns-9
 unfolding answerIn toldOf
-returns-9 c = rw (← c .before .before .before .step .ensures, c .before .phase .given .1)
+returns-9 c = rw (c .before .phase .given .1)
 
 pub told-spec : {M : Type 1} → statement M
 told-spec =
     tie.close
     (tie.spec
-    step-requires
     enum-told
     enum-told-2
     enum-told-3

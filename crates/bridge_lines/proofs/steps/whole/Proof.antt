@@ -1,10 +1,9 @@
 -- `steps::whole` meets its contract. Assumes nothing.
-use borrow.Author.Needs.{needs}
 use Rattle.bridge_lines.proofs.steps.whole.Statement.{statement}
 use Rattle.bridge_lines.proofs.steps.whole.Tie as tie
 
 more-requires : tie.Need-more-requires
-more-requires c κs = search needs
+more-requires c κs = tt
 
 returns : tie.Need-returns
 returns c = cc

@@ -11,7 +11,7 @@ use lib.Pow.{pow-add, pow-pos, pow-mono, shl-lt}
 use lib.Ieee.{Float, nan, inf, fin, binary32, up, down, odd, ofFields}
 use lib.Ieee.Exact.{HasValue, odd-sign}
 use lib.Ieee.Fits.{down-pos}
-use Rattle.bridge_lines.specs.Thousandths.{nearestUp, heldOf, thousandthsOf}
+use Rattle.bridge_text.specs.Thousandths.{nearestUp, heldOf, thousandthsOf}
 
 same-quotient : (a b c d : ℕ) → 0 < b → 0 < d → a * d ≡ c * b → a / b ≡ c / d
 same-quotient a b c d p q e =

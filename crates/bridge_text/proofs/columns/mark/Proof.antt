@@ -2,8 +2,8 @@
 use mathlib.Core.Path.{_∙_}
 use borrow.Author.Tests.{le-leb, lt-leb}
 use borrow.Author.Needs.{needs}
-use Rattle.bridge_lines.proofs.columns.mark.Statement.{statement}
-use Rattle.bridge_lines.proofs.columns.mark.Tie as tie
+use Rattle.bridge_text.proofs.columns.mark.Statement.{statement}
+use Rattle.bridge_text.proofs.columns.mark.Tie as tie
 
 shown-requires : tie.Need-shown-requires
 shown-requires c κs = search needs

@@ -1,7 +1,7 @@
 // The size of a float in thousandths, by whole numbers alone: no step is rounded but the last.
 ghost use mathlib.Core.Path.{_≡_};
 ghost use Prim.Native.Nat.{_*_, _^_, _≤_, _<_, min};
-ghost use Rattle.bridge_lines.specs.Thousandths.{nearestUp, heldOf, thousandthsOf};
+ghost use Rattle.bridge_text.specs.Thousandths.{nearestUp, heldOf, thousandthsOf};
 
 // Where a size is held: a number of so many thousandths is not written.
 const MOST: u64 = 1000000000000;

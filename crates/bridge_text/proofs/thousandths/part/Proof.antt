@@ -4,8 +4,8 @@ use mathlib.Core.Path.{_≡_}
 use Prim.Native.Nat.{_*_, _%_, _^_}
 use lib.Pow.{pow-mono, pow-pos}
 use borrow.Author.Needs.{needs}
-use Rattle.bridge_lines.proofs.thousandths.part.Statement.{statement}
-use Rattle.bridge_lines.proofs.thousandths.part.Tie as tie
+use Rattle.bridge_text.proofs.thousandths.part.Statement.{statement}
+use Rattle.bridge_text.proofs.thousandths.part.Tie as tie
 
 shl-p : tie.Need-shl-p
 shl-p c = search needs

@@ -1,10 +1,10 @@
--- `columns::text` meets its contract. Assumes nothing.
+-- `text` meets its contract. Assumes nothing.
 use mathlib.Core.Path.{_∙_}
 use borrow.Author.Tests.{lt-ltb, le-ltb}
-use Rattle.bridge_lines.specs.Text.{textOf}
+use Rattle.bridge_text.specs.Text.{textOf}
 use borrow.Author.Needs.{needs}
-use Rattle.bridge_lines.proofs.columns.text.Statement.{statement}
-use Rattle.bridge_lines.proofs.columns.text.Tie as tie
+use Rattle.bridge_text.proofs.text.Statement.{statement}
+use Rattle.bridge_text.proofs.text.Tie as tie
 
 thousandths-requires : tie.Need-thousandths-requires
 thousandths-requires c κs = search needs

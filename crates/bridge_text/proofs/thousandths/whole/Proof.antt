@@ -3,10 +3,10 @@ use mathlib.Core.Path.{_∙_}
 use native.Mathlib.Omega.{arith}
 use Prim.Native.Nat.{_*_, _^_, _<_}
 use native.Mathlib.Nat.{mod-eq-of-lt}
-use Rattle.bridge_lines.proofs.Sizes.{shifted}
+use Rattle.bridge_text.proofs.Sizes.{shifted}
 use borrow.Author.Needs.{needs}
-use Rattle.bridge_lines.proofs.thousandths.whole.Statement.{statement}
-use Rattle.bridge_lines.proofs.thousandths.whole.Tie as tie
+use Rattle.bridge_text.proofs.thousandths.whole.Statement.{statement}
+use Rattle.bridge_text.proofs.thousandths.whole.Tie as tie
 
 shl-held : tie.Need-shl-held
 shl-held c = search needs

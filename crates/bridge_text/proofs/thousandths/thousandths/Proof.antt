@@ -9,11 +9,11 @@ use lib.Ieee.Compare.{differs-from-itself}
 use lib.Ieee.Bits.{toBits-lt}
 use Rattle.float_laws.proofs.Sign.{equals-itself}
 use Rattle.float_ground.proofs.Apart.{fields-are, fields-in, fields-infinite}
-use Rattle.bridge_lines.specs.Thousandths.{thousandthsOf}
-use Rattle.bridge_lines.proofs.Sizes.{of-low, of-high}
+use Rattle.bridge_text.specs.Thousandths.{thousandthsOf}
+use Rattle.bridge_text.proofs.Sizes.{of-low, of-high}
 use borrow.Author.Needs.{needs}
-use Rattle.bridge_lines.proofs.thousandths.thousandths.Statement.{statement}
-use Rattle.bridge_lines.proofs.thousandths.thousandths.Tie as tie
+use Rattle.bridge_text.proofs.thousandths.thousandths.Statement.{statement}
+use Rattle.bridge_text.proofs.thousandths.thousandths.Tie as tie
 
 held : (c : tie.Start) → T (fits binary32 (c .args .v))
 held c = subst T (sym (c .good .0 .1)) tt

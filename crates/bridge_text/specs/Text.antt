@@ -4,7 +4,7 @@ use mathlib.Core.Bool.{Bool, cond, _&&_}
 use mathlib.Core.List.{List, [], _∷_}
 use lib.Dec.{leb, ltb}
 use lib.Ieee.{Float, binary32, lt, ofBits}
-use Rattle.bridge_lines.specs.Thousandths.{thousandthsOf}
+use Rattle.bridge_text.specs.Thousandths.{thousandthsOf}
 
 -- the digit of weight p, as a byte
 abbrev pub digitOf : ℕ → ℕ → ℕ

@@ -1,8 +1,7 @@
 // A number in columns: blanks, a minus, the digits before the point, the point and three digits.
 ghost use mathlib.Core.Path.{_≡_};
 ghost use Prim.Native.Nat.{_<_, max};
-ghost use Rattle.bridge_lines.specs.Text.{digitOf, markOf, columnsOf, textOf};
-use crate::thousandths;
+ghost use Rattle.bridge_text.specs.Text.{digitOf, markOf, columnsOf};
 
 // The digit of n whose weight is p.
 fn digit(n: u64, p: u64) -> u8
@@ -33,7 +32,7 @@ fn mark(negative: bool, n: u64, p: u64) -> u8
 }
 
 // n thousandths in 14 columns, with a minus where that is asked for.
-fn columns(negative: bool, n: u64) -> [u8; 14]
+pub fn columns(negative: bool, n: u64) -> [u8; 14]
     ensures { λ r. ⌜ r ≡ columnsOf negative n ⌝ }
 {
     [
@@ -52,15 +51,4 @@ fn columns(negative: bool, n: u64) -> [u8; 14]
         digit(n, 10),
         digit(n, 1),
     ]
-}
-
-pub fn text(v: f32) -> [u8; 14]
-    ensures { λ r. ⌜ r ≡ textOf v ⌝ }
-{
-    let n = thousandths::thousandths(v);
-    if n < 1000000000000 {
-        columns((v < 0.0) & (0 < n), n)
-    } else {
-        *b"        beyond"
-    }
 }

@@ -1,8 +1,8 @@
 -- `columns::columns` meets its contract, column by column. Assumes nothing.
-use Rattle.bridge_lines.specs.Text.{columnsOf}
+use Rattle.bridge_text.specs.Text.{columnsOf}
 use borrow.Author.Needs.{needs}
-use Rattle.bridge_lines.proofs.columns.columns.Statement.{statement}
-use Rattle.bridge_lines.proofs.columns.columns.Tie as tie
+use Rattle.bridge_text.proofs.columns.columns.Statement.{statement}
+use Rattle.bridge_text.proofs.columns.columns.Tie as tie
 
 mark-requires : tie.Need-mark-requires
 mark-requires c κs = search needs

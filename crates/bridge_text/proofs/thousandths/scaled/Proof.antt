@@ -2,10 +2,10 @@
 use mathlib.Core.Path.{sym, ap, _∙_}
 use Prim.Native.Nat.{ℕ, min}
 use native.Mathlib.Omega.{arith}
-use Rattle.bridge_lines.proofs.Sizes.{left, right, much, little}
+use Rattle.bridge_text.proofs.Sizes.{left, right, much, little}
 use borrow.Author.Needs.{needs}
-use Rattle.bridge_lines.proofs.thousandths.scaled.Statement.{statement}
-use Rattle.bridge_lines.proofs.thousandths.scaled.Tie as tie
+use Rattle.bridge_text.proofs.thousandths.scaled.Statement.{statement}
+use Rattle.bridge_text.proofs.thousandths.scaled.Tie as tie
 
 returns : tie.Need-returns
 returns c = sym (much (c .before .args .q) (c .before .args .x) (c .before .pre .1 (omega arith)) (c .if1 .taken))
