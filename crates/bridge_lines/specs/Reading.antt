@@ -111,19 +111,19 @@ stepsOf s (b ∷ l) = stepsOf (stepOf s b) l
 
 -- ---- what a line comes to: its end counts as a blank
 
-unfoldable pub answerIn : Phase → Number → Conic → Line
-answerIn Gap n c = cond (eqb (n .place) 1) Blank (Bad (n .place) TooFew)
-answerIn Sign n c = Bad (n .place) NoNumber
-answerIn Whole n c = Bad (n .place) NoNumber
-answerIn Dot n c = Bad (n .place) NoNumber
-answerIn Decimals n c = Bad (n .place) NoNumber
-answerIn Done n c = Good (record { conic = c; level = n .size })
-answerIn Comment n c = Blank
-answerIn (Wrong why) n c = Bad (n .place) why
+unfoldable pub answerOf : Phase → ℕ → ℕ → Conic → Line
+answerOf Gap place size c = cond (eqb place 1) Blank (Bad place TooFew)
+answerOf Sign place size c = Bad place NoNumber
+answerOf Whole place size c = Bad place NoNumber
+answerOf Dot place size c = Bad place NoNumber
+answerOf Decimals place size c = Bad place NoNumber
+answerOf Done place size c = Good (record { conic = c; level = size })
+answerOf Comment place size c = Blank
+answerOf (Wrong why) place size c = Bad place why
 
 unfoldable pub toldOf : State → Line
-unfolding answerIn
-toldOf s = answerIn (s .number .phase) (s .number) (s .conic)
+unfolding answerOf
+toldOf s = answerOf (s .number .phase) (s .number .place) (s .number .size) (s .conic)
 
 unfoldable pub readOf : List ℕ → Line
 unfolding toldOf stepOf stepsOf

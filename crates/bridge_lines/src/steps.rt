@@ -1,6 +1,6 @@
 // A line is read byte by byte, from state to state.
 ghost use mathlib.Core.Path.{_≡_};
-ghost use Rattle.bridge_lines.specs.Reading.{freshOf, toOf, takenOf, closedOf, wholeOf, decimalsOf, gapOf, signOf, inWholeOf, dotOf, inDecimalsOf, doneOf, advancedOf, stepOf, startOf, toldOf};
+ghost use Rattle.bridge_lines.specs.Reading.{freshOf, toOf, takenOf, closedOf, wholeOf, decimalsOf, gapOf, signOf, inWholeOf, dotOf, inDecimalsOf, doneOf, advancedOf, stepOf, startOf, answerOf, toldOf};
 use crate::Bridge;
 use crate::Fault;
 use crate::Line;
@@ -261,26 +261,30 @@ pub fn step(s: State, b: u8) -> State
 pub fn told(s: State) -> Line
     ensures { λ r. ⌜ r ≡ toldOf s ⌝ }
 {
-    let conic = s.conic;
     let n = s.number;
     let phase = n.phase;
+    let conic = s.conic;
+    answer(phase, n.place, n.size, conic)
+}
+
+// The same, by the phase.
+fn answer(phase: Phase, place: u32, size: u32, conic: Conic) -> Line
+    ensures { λ r. ⌜ r ≡ answerOf phase place size conic ⌝ }
+{
     match phase {
         Phase::Gap => {
-            if n.place == 1 {
+            if place == 1 {
                 Line::Blank
             } else {
-                Line::Bad(n.place, Fault::TooFew)
+                Line::Bad(place, Fault::TooFew)
             }
         }
-        Phase::Sign => Line::Bad(n.place, Fault::NoNumber),
-        Phase::Whole => Line::Bad(n.place, Fault::NoNumber),
-        Phase::Dot => Line::Bad(n.place, Fault::NoNumber),
-        Phase::Decimals => Line::Bad(n.place, Fault::NoNumber),
-        Phase::Done => Line::Good(Bridge {
-            conic,
-            level: n.size,
-        }),
+        Phase::Sign => Line::Bad(place, Fault::NoNumber),
+        Phase::Whole => Line::Bad(place, Fault::NoNumber),
+        Phase::Dot => Line::Bad(place, Fault::NoNumber),
+        Phase::Decimals => Line::Bad(place, Fault::NoNumber),
+        Phase::Done => Line::Good(Bridge { conic, level: size }),
         Phase::Comment => Line::Blank,
-        Phase::Wrong(why) => Line::Bad(n.place, why),
+        Phase::Wrong(why) => Line::Bad(place, why),
     }
 }
