@@ -8,8 +8,8 @@ use conic::Refusal;
 mod number;
 mod steps;
 
-// What is wrong with a line: a number that is none (or no whole one, or has a sign, where that is asked for),
-// one that is too large or has too many decimals, fewer than eight numbers, more, or more than 256 bytes.
+// What is wrong with a line: a number that is none, or not of the kind that its place takes; one that is too large or
+// has too many decimals; fewer than eight numbers; more than eight; more than 256 bytes.
 pub enum Fault {
     NoNumber,
     OutOfRange,
@@ -31,8 +31,9 @@ pub enum Line {
     Bad(u32, Fault),
 }
 
-// Reads a line, without its newline, for which a blank is read: `x0 y0 x1 y1 x2 y2 weight level`. The coordinates are whole and at most
-// 2^24 in size, the weight has at most 7 digits and may have a point, the level has at most 9 digits.
+// Reads a line without its newline, for which a blank is read: `x0 y0 x1 y1 x2 y2 weight level`. Coordinates are whole
+// and at most 2^24 in size; the weight may have a point, and comes to at most 7 digits with at most 6 after the point;
+// the level is whole, has no sign and comes to at most 9 digits. Zeros in front do not count.
 pub fn read(line: &[u8]) -> Line
     ensures { λ r. ⌜ r ≡ readOf (now (line .entry)) ⌝ }
 {
