@@ -1,0 +1,112 @@
+// What is printed of a line.
+use bridge_lines::Bridge;
+use bridge_lines::Fault;
+use bridge_lines::Line;
+use conic::Refusal;
+use conic::Rule;
+use conic_cut::Cut;
+use libc::STDOUT_FILENO;
+
+fn text(t: &[u8]) {
+    io::write_all(STDOUT_FILENO, t);
+}
+
+fn heading(line: u64) {
+    text(b"line ");
+    io::print_decimal(STDOUT_FILENO, line);
+    text(b": ");
+}
+
+// Writes v without the blanks in front of it.
+fn coordinate(v: f32) {
+    let t = bridge_text::text(v);
+    let mut i = 0;
+    while i < 13 && t[i] == b' ' {
+        i += 1;
+    }
+    text(&t[i..]);
+}
+
+// Writes a point, as a line.
+fn point(x: f32, y: f32) {
+    coordinate(x);
+    text(b" ");
+    coordinate(y);
+    text(b"\n");
+}
+
+// Writes the first `count` points of the buffer, which has room for 33.
+fn points(out: &[f32; 66], count: usize) {
+    let mut i = 0;
+    while i < 33 {
+        if i < count {
+            point(out[2 * i], out[2 * i + 1]);
+        }
+        i += 1;
+    }
+}
+
+fn refused(why: Refusal) {
+    text(b"refused ");
+    io::print_decimal(STDOUT_FILENO, bridge_lines::refusal(why) as u64);
+    text(b"\n");
+}
+
+// Cuts a bridge; level 4 has 33 points.
+fn cut(b: Bridge) {
+    let mut out = [0.0f32; 66];
+    let conic = b.conic;
+    match conic_cut::chop_into_quads_pow2(&mut out, Rule::Exact, conic, b.level) {
+        Cut::Quads(n) => {
+            let count = if n < 17 { 2 * n + 1 } else { 33 };
+            io::print_decimal(STDOUT_FILENO, count as u64);
+            text(b" points\n");
+            points(&out, count);
+        }
+        Cut::Refused(why) => refused(why),
+    }
+}
+
+fn number(place: u32) {
+    text(b"number ");
+    io::print_decimal(STDOUT_FILENO, place as u64);
+}
+
+fn bad(place: u32, why: Fault) {
+    match why {
+        Fault::NoNumber => {
+            number(place);
+            if place == 7 {
+                text(b" is no decimal number\n");
+            } else {
+                text(b" is no whole number\n");
+            }
+        }
+        Fault::OutOfRange => {
+            number(place);
+            text(b" is out of range\n");
+        }
+        Fault::TooFew => {
+            text(b"too few numbers: ");
+            number(place);
+            text(b" is missing\n");
+        }
+        Fault::TooMany => text(b"too many numbers: number 8 is the last\n"),
+        Fault::TooLong => text(b"too long: a line has at most 256 bytes\n"),
+    }
+}
+
+// Writes what the line of this number comes to.
+pub fn show(number: u64, line: &[u8]) {
+    match bridge_lines::read(line) {
+        Line::Blank => (),
+        Line::Good(b) => {
+            heading(number);
+            cut(b);
+        }
+        Line::Bad(place, why) => {
+            heading(number);
+            bad(place, why);
+        }
+    }
+}

@@ -1,0 +1,7 @@
+// Reads bridges from standard input, one a line, cuts each by the exact rule and prints the points of its quads.
+mod answer;
+mod lines;
+
+fn main() {
+    lines::run();
+}

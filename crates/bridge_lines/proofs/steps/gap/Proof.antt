@@ -1,0 +1,49 @@
+-- `steps::gap` meets its contract: each answer goes by the tests that led to it. Assumes nothing.
+use mathlib.Core.Path.{_∙_}
+use Rattle.bridge_lines.proofs.steps.gap.Statement.{statement}
+use Rattle.bridge_lines.proofs.steps.gap.Tie as tie
+
+is-blank-requires : tie.Need-is-blank-requires
+is-blank-requires c κs = tt
+
+returns : tie.Need-returns
+returns c = rw (← c .before .is-blank .ensures, c .if1 .taken)
+
+is-digit-requires : tie.Need-is-digit-requires
+is-digit-requires c κs = tt
+
+whole-requires : tie.Need-whole-requires
+whole-requires c κs = tt
+
+returns-2 : tie.Need-returns-2
+returns-2 c = c .whole .ensures ∙ rw (← c .before .before .before .before .is-blank .ensures, c .before .before .before .if1 .left, ← c .before .before .is-digit .ensures, c .before .if2 .taken)
+
+returns-3 : tie.Need-returns-3
+returns-3 c = rw (← c .before .before .before .before .before .is-blank .ensures, c .before .before .before .before .if1 .left, ← c .before .before .before .is-digit .ensures, c .before .before .if2 .left, c .if3 .taken)
+
+to-requires : tie.Need-to-requires
+to-requires c κs = tt
+
+returns-4 : tie.Need-returns-4
+returns-4 c = c .to .ensures ∙ rw (← c .before .before .before .before .before .before .before .before .is-blank .ensures, c .before .before .before .before .before .before .before .if1 .left, ← c .before .before .before .before .before .before .is-digit .ensures, c .before .before .before .before .before .if2 .left, c .before .before .before .if3 .left, c .before .if4 .taken)
+
+to-requires-2 : tie.Need-to-requires-2
+to-requires-2 c κs = tt
+
+returns-5 : tie.Need-returns-5
+returns-5 c = c .to2 .ensures ∙ rw (← c .before .before .before .before .before .before .before .before .is-blank .ensures, c .before .before .before .before .before .before .before .if1 .left, ← c .before .before .before .before .before .before .is-digit .ensures, c .before .before .before .before .before .if2 .left, c .before .before .before .if3 .left, c .before .if4 .left)
+
+pub gap-spec : {M : Type 1} → statement M
+gap-spec =
+    tie.close
+    (tie.spec
+    is-blank-requires
+    returns
+    is-digit-requires
+    whole-requires
+    returns-2
+    returns-3
+    to-requires
+    returns-4
+    to-requires-2
+    returns-5)
