@@ -9,7 +9,7 @@ use Rattle.float_laws.specs.Root.{rootOf}
 use Rattle.float_laws.proofs.RootMeaning.{both}
 use Rattle.quad_roots.specs.Roots.{rootsOf, discriminantOf, dividedOf, twoRoots, collected, qOf}
 use Rattle.conic.specs.Between.{test}
-use Rattle.conic.specs.Chop.{lineOf, linesOf, halvesWith, chopBy}
+use Rattle.conic.specs.Chop.{lineOf, linesAt, halvesAt, chopAt, chopBy}
 use Rattle.conic.specs.Mend.{nearerOf, orderedOf, mendedOf}
 use Rattle.point.specs.Point.{flat}
 use Rattle.conic_cut.specs.Cut.{cutPoints, allFinite, pinned, written, cutAnswer}
@@ -45,7 +45,7 @@ abbrev _&_ : {A B : Type 0} → A → B → A × B
 a & b = (a, b)
 
 all-computed : AllComputed figures
-unfolding bits rootBits at corner rootOf roundTo rootsOf discriminantOf dividedOf twoRoots collected qOf test chopBy halvesWith linesOf lineOf mendedOf orderedOf nearerOf absOf cutPoints allFinite pinned written flat cutAnswer ofBits toBits fits add sub mul div lt le
+unfolding bits rootBits at corner rootOf roundTo rootsOf discriminantOf dividedOf twoRoots collected qOf test chopBy chopAt halvesAt linesAt lineOf mendedOf orderedOf nearerOf absOf cutPoints allFinite pinned written flat cutAnswer ofBits toBits fits add sub mul div lt le
 all-computed =
     (tt & refl) & (tt & refl) & (tt & refl) & refl & refl & refl & refl & refl & refl & refl & refl & refl & refl & refl
     & (refl & refl) & (refl & refl) & (refl & refl) & (refl & refl) & refl & refl & tt

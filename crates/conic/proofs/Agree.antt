@@ -8,7 +8,7 @@ use Rattle.conic.specs.declared.Rule.{Rule}
 use Rattle.conic.specs.declared.chopping.Line.{Line}
 use Rattle.conic.specs.Agree.{Alike, LineAlike, ChopAlike}
 use Rattle.conic.specs.Between.{test}
-use Rattle.conic.specs.Chop.{linesOf, halvesWith, chopBy}
+use Rattle.conic.specs.Chop.{weightOf, linesOf, halvesAt, chopAt, chopBy}
 use Rattle.conic.specs.Mend.{orderedOf, mendedOf}
 
 same-ordered : (u v : Rule) (a c : Float) (l : Line) → LineAlike u v a c l → orderedOf u a c l ≡ orderedOf v a c l
@@ -24,6 +24,6 @@ unfolding mendedOf
 same-mended u v a b c l e h = rw (← e) (same-if (test u a b c) (orderedOf u a c l) (orderedOf v a c l) l (λ t. same-ordered u v a c l (h t)))
 
 pub same-halves : (u v : Rule) (c : Conic) → ChopAlike u v c → chopBy u c ≡ chopBy v c
-unfolding chopBy
+unfolding chopAt chopBy
 same-halves u v c h =
-    ap (λ (y : Line). halvesWith c (record { x = linesOf c .x; y = y })) (same-mended u v (c .p0 .y) (c .p1 .y) (c .p2 .y) (linesOf c .y) (h .control) (h .chopped))
+    ap (λ (y : Line). halvesAt (weightOf (c .weight)) c (record { x = linesOf c .x; y = y })) (same-mended u v (c .p0 .y) (c .p1 .y) (c .p2 .y) (linesOf c .y) (h .control) (h .chopped))

@@ -14,7 +14,7 @@ use Rattle.conic.specs.declared.Rule.the-variants.{Exact}
 use Rattle.conic.specs.declared.chopping.Line.{Line}
 use Rattle.conic.specs.declared.chopping.Lines.{Lines}
 use Rattle.conic.specs.Between.{test, exactTest}
-use Rattle.conic.specs.Chop.{Axis, X, Y, along, on, linesOf, halvesWith, orders, mendedLine, mendedLines, chopBy}
+use Rattle.conic.specs.Chop.{Axis, X, Y, along, on, scaleOf, weightOf, linesAt, linesOf, halvesAt, orders, mendedLine, mendedLines, chopAt, chopBy}
 use Rattle.conic.specs.Mend.{nearerOf, orderedOf, mendedOf}
 
 -- ---- a direction: `le`, or `le` turned round
@@ -62,12 +62,12 @@ true-of : (b : Bool) → T b → b ≡ true
 true-of true t = refl
 
 -- the rule's line of a chop is the ordered one where the conic's middle passes
-mended-on : (k : Axis) (u : Rule) (c : Conic) → on k (mendedLines u c) ≡ mendedLine k u c (on k (linesOf c))
+mended-on : (k : Axis) (u : Rule) (c : Conic) → on k (mendedLines u (scaleOf (c .weight)) c) ≡ mendedLine k u c (on k (linesOf c))
 mended-on X u c = refl
 mended-on Y u c = refl
 
 is-ordered : (k : Axis) (u : Rule) (c : Conic) → T (orders k u) → T (test u (along k (c .p0)) (along k (c .p1)) (along k (c .p2)))
-    → on k (mendedLines u c) ≡ orderedOf u (along k (c .p0)) (along k (c .p2)) (on k (linesOf c))
+    → on k (mendedLines u (scaleOf (c .weight)) c) ≡ orderedOf u (along k (c .p0)) (along k (c .p2)) (on k (linesOf c))
 unfolding mendedOf
 is-ordered k u c o t = mended-on k u c ∙ rw (true-of (orders k u) o, true-of (test u (along k (c .p0)) (along k (c .p1)) (along k (c .p2))) t)
 
@@ -117,18 +117,18 @@ module _ (W : Way) where
         record { first = fin-m; last = q; low = right .0; high = right .1 },
       )
 
-  halves-of : (k : Axis) (c : Conic) (l : Lines) → Run (along k (c .p0)) (on k l .left) (on k l .middle) → Run (on k l .middle) (on k l .right) (along k (c .p2))
-      → Runs k (halvesWith c l .first) × Runs k (halvesWith c l .second)
-  unfolding halvesWith
-  halves-of X c l p q = (p, q)
-  halves-of Y c l p q = (p, q)
+  halves-of : (k : Axis) (w : Float) (c : Conic) (l : Lines) → Run (along k (c .p0)) (on k l .left) (on k l .middle) → Run (on k l .middle) (on k l .right) (along k (c .p2))
+      → Runs k (halvesAt w c l .first) × Runs k (halvesAt w c l .second)
+  unfolding halvesAt
+  halves-of X w c l p q = (p, q)
+  halves-of Y w c l p q = (p, q)
 
   pub halves-run : (k : Axis) (u : Rule) → PutsInOrder k u → (c : Conic) → Runs k c → Runs k (chopBy u c .first) × Runs k (chopBy u c .second)
-  unfolding chopBy
+  unfolding chopAt chopBy
   halves-run k u o c g =
       let a = along k (c .p0) in
       let b = along k (c .p1) in
       let e = along k (c .p2) in
       let same = is-ordered k u c (o .on-axis) (subst⁻¹ T (o .exact a b e) (W .passes a b e (g .low) (g .high))) in
       let runs = line-runs u (o .exact) a e (on k (linesOf c)) (g .first) (g .last) (W .through a b e (g .low) (g .high)) in
-      halves-of k c (mendedLines u c) (rw same (runs .0)) (rw same (runs .1))
+      halves-of k (weightOf (c .weight)) c (mendedLines u (scaleOf (c .weight)) c) (rw same (runs .0)) (rw same (runs .1))

@@ -63,38 +63,40 @@ wideMiddle a b c w =
     let scaleHalf = mul binary64 (div binary64 one64 (add binary64 one64 w)) half64 in
     narrowOf (mul binary64 (add binary64 (add binary64 a (mul binary64 (mul binary64 w two64) b)) c) scaleHalf)
 
--- ---- both axes
-abbrev pub plainLine : Axis → Conic → Line
-plainLine k c = lineOf (along k (c .p0)) (along k (c .p1)) (along k (c .p2)) (c .weight) (scaleOf (c .weight))
+-- ---- both axes, at the scale s
+abbrev pub plainLine : Float → Axis → Conic → Line
+plainLine s k c = lineOf (along k (c .p0)) (along k (c .p1)) (along k (c .p2)) (c .weight) s
 
 abbrev pub withMiddle : Line → Float → Line
 withMiddle l m = record { left = l .left; middle = m; right = l .right }
 
-abbrev pub wideLine : Axis → Conic → Line
-wideLine k c = withMiddle (plainLine k c) (wideMiddle (along k (c .p0)) (along k (c .p1)) (along k (c .p2)) (c .weight))
+abbrev pub wideLine : Float → Axis → Conic → Line
+wideLine s k c = withMiddle (plainLine s k c) (wideMiddle (along k (c .p0)) (along k (c .p1)) (along k (c .p2)) (c .weight))
 
 -- both middles through f64 where the product of the plain ones is not finite
-unfoldable pub linesOf : Conic → Lines
-linesOf c =
-    cond (finite (mul binary32 (plainLine X c .middle) (plainLine Y c .middle)))
-    (record { x = plainLine X c; y = plainLine Y c })
-    (record { x = wideLine X c; y = wideLine Y c })
+unfoldable pub linesAt : Float → Conic → Lines
+linesAt s c =
+    cond (finite (mul binary32 (plainLine s X c .middle) (plainLine s Y c .middle)))
+    (record { x = plainLine s X c; y = plainLine s Y c })
+    (record { x = wideLine s X c; y = wideLine s Y c })
+
+abbrev pub linesOf : Conic → Lines
+linesOf c = linesAt (scaleOf (c .weight)) c
 
 abbrev pub weightOf : Float → Float
 weightOf w = rootOf binary32 (add binary32 half (mul binary32 w half))
 
--- the halves that these lines make
-unfoldable pub halvesWith : Conic → Lines → Halves
-halvesWith c l =
+-- the halves that these lines make, of weight w
+unfoldable pub halvesAt : Float → Conic → Lines → Halves
+halvesAt w c l =
     let m = pointFrom (l .x .middle) (l .y .middle) in
-    let w = weightOf (c .weight) in
     record {
       first = conicFrom (c .p0) (pointFrom (l .x .left) (l .y .left)) m w;
       second = conicFrom m (pointFrom (l .x .right) (l .y .right)) (c .p2) w;
     }
 
 unfoldable pub chopOf : Conic → Halves
-chopOf c = halvesWith c (linesOf c)
+chopOf c = halvesAt (weightOf (c .weight)) c (linesOf c)
 
 -- ---- a chop by a rule
 -- which axes a rule puts in order
@@ -105,8 +107,13 @@ orders Y u = true
 abbrev pub mendedLine : Axis → Rule → Conic → Line → Line
 mendedLine k u c l = cond (orders k u) (mendedOf u (along k (c .p0)) (along k (c .p1)) (along k (c .p2)) l) l
 
-abbrev pub mendedLines : Rule → Conic → Lines
-mendedLines u c = record { x = mendedLine X u c (linesOf c .x); y = mendedLine Y u c (linesOf c .y) }
+abbrev pub mendedLines : Rule → Float → Conic → Lines
+mendedLines u s c = record { x = mendedLine X u c (linesAt s c .x); y = mendedLine Y u c (linesAt s c .y) }
+
+-- at the scale s, with halves of weight w
+unfoldable pub chopAt : Rule → Float → Float → Conic → Halves
+chopAt u s w c = halvesAt w c (mendedLines u s c)
 
 unfoldable pub chopBy : Rule → Conic → Halves
-chopBy u c = halvesWith c (mendedLines u c)
+unfolding chopAt
+chopBy u c = chopAt u (scaleOf (c .weight)) (weightOf (c .weight)) c

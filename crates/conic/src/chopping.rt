@@ -1,6 +1,6 @@
 // The formulas of a chop, one axis at a time. Carried over from `path_geometry.rs` of tiny-skia-path 0.12.0.
 ghost use mathlib.Core.Path.{_≡_};
-ghost use Rattle.conic.specs.Chop.{conicFrom, pointFrom, lineOf, withMiddle, wideMiddle, linesOf, weightOf, halvesWith};
+ghost use Rattle.conic.specs.Chop.{conicFrom, pointFrom, lineOf, withMiddle, wideMiddle, scaleOf, linesAt, weightOf, halvesAt};
 use crate::Conic;
 use crate::Halves;
 use point::Point;
@@ -46,11 +46,17 @@ fn widened(l: Line, a: f32, b: f32, c: f32, weight: f32) -> Line
     }
 }
 
-// Both axes of a chop. Both middles are computed again where the point that they make is not finite.
-pub fn chopped(c: Conic) -> Lines
-    ensures { λ r. ⌜ r ≡ linesOf c ⌝ }
+// The scale of a chop.
+pub fn scale(w: f32) -> f32
+    ensures { λ r. ⌜ r ≡ scaleOf w ⌝ }
 {
-    let scale = 1.0 / (1.0 + c.weight);
+    1.0 / (1.0 + w)
+}
+
+// Both axes of a chop. Both middles are computed again where the point that they make is not finite.
+pub fn chopped(c: Conic, scale: f32) -> Lines
+    ensures { λ r. ⌜ r ≡ linesAt scale c ⌝ }
+{
     let x = plain(c.p0.x, c.p1.x, c.p2.x, c.weight, scale);
     let y = plain(c.p0.y, c.p1.y, c.p2.y, c.weight, scale);
     let middle = Point {
@@ -66,7 +72,7 @@ pub fn chopped(c: Conic) -> Lines
 }
 
 // The weight of both halves.
-fn subdivide_weight_value(w: f32) -> f32
+pub fn subdivide_weight_value(w: f32) -> f32
     ensures { λ r. ⌜ r ≡ weightOf w ⌝ }
 {
     float_ground::sqrt_f32(0.5 + w * 0.5)
@@ -85,10 +91,9 @@ fn half(p0: Point, x: f32, y: f32, p2: Point, weight: f32) -> Conic
 }
 
 // The halves of c that these lines make.
-pub fn halves(c: Conic, l: Lines) -> Halves
-    ensures { λ r. ⌜ r ≡ halvesWith c l ⌝ }
+pub fn halves(c: Conic, l: Lines, weight: f32) -> Halves
+    ensures { λ r. ⌜ r ≡ halvesAt weight c l ⌝ }
 {
-    let weight = subdivide_weight_value(c.weight);
     let middle = Point {
         x: l.x.middle,
         y: l.y.middle,

@@ -14,7 +14,7 @@ use Rattle.point.specs.Point.{pointFinite}
 use Rattle.conic.specs.declared.Conic.{Conic}
 use Rattle.conic.specs.declared.Halves.{Halves}
 use Rattle.conic.specs.declared.Rule.{Rule}
-use Rattle.conic.specs.Chop.{Axis, X, Y, along, halvesWith, chopBy}
+use Rattle.conic.specs.Chop.{Axis, X, Y, along, halvesAt, chopAt, chopBy}
 use Rattle.conic.proofs.Ways.{Way, Runs, up-way, down-way, PutsInOrder, halves-run}
 use Rattle.conic_cut.specs.Cut.{cutPoints, allFinite, plain, pinned, written}
 use Rattle.conic_cut.specs.Order.{Steps, OneWay, Finite, AllFinite, firstOf, lastOf, Bridge, InOrder}
@@ -27,7 +27,7 @@ pub record Joined (f : Conic → Halves) : Type 0 where
   pub end : KeepsEnd f
 
 pub joined : (u : Rule) → Joined (chopBy u)
-unfolding chopBy halvesWith
+unfolding chopBy chopAt halvesAt
 joined u = record { start = λ c. refl; joint = λ c. refl; end = λ c. refl }
 
 -- ---- lists of points

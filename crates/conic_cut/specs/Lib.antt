@@ -1,4 +1,5 @@
 pub mod Agree
 pub mod Auto
 pub mod Cut
+pub mod Ladder
 pub mod Order

@@ -6,6 +6,7 @@ ghost use lib.ListN.{length, replicate};
 ghost use lib.Seq.{sets};
 ghost use Rattle.conic.specs.Chop.{chopBy};
 ghost use Rattle.point.specs.Point.{flat};
+ghost use Rattle.conic_cut.specs.Ladder.{rungsOf, Rungs};
 ghost use Rattle.conic_cut.specs.Cut.{pointsOf, allFinite, cutPoints, written};
 use conic::Conic;
 use conic::Rule;
@@ -30,19 +31,43 @@ fn put(out: &mut [f32], at: usize, p: Point) -> usize
     next + 1
 }
 
+// The scale and the weight of the halves for each level of a cut: a root and a division for each depth, and not for
+// each chop.
+fn ladder(rungs: &mut [f32; 12], weight: f32, level: u32)
+    requires { ⌜ level ≤ 6 ⌝ }
+    ensures { λ _. ⌜ now (rungs .exit) ≡ rungsOf (now (rungs .entry)) level weight ⌝ }
+{
+    let mut w = weight;
+    let mut n = level as usize;
+    while n > 0 {
+        n -= 1;
+        rungs[2 * n] = Conic::scale(w);
+        w = Conic::subdivide_weight_value(w);
+        rungs[2 * n + 1] = w;
+    }
+}
+
 // Stores all the points of the cut but the first from `at` on, and answers the next place.
-fn subdivide(out: &mut [f32], at: usize, rule: Rule, c: Conic, level: u32) -> usize
-    requires { ⌜ at + 4 * 2 ^ level ≤ length (now out) ⌝ }
+fn subdivide(
+    out: &mut [f32],
+    at: usize,
+    rungs: &[f32; 12],
+    rule: Rule,
+    c: Conic,
+    level: u32,
+) -> usize
+    requires { ⌜ at + 4 * 2 ^ level ≤ length (now out) ⌝ ∗ ⌜ level ≤ 6 ⌝ ∗ ⌜ Rungs (now rungs) level (c .weight) ⌝ }
     ensures { λ r. ⌜ (r ≡ at + 4 * 2 ^ level) × (now (out .exit) ≡ sets (now (out .entry)) at (flat (cutPoints (chopBy rule) level c))) ⌝ }
 {
     if level == 0 {
         let next = put(out, at, c.p1);
         return put(out, next, c.p2);
     }
-    let h = c.chop_by(rule);
     let less = level - 1;
-    let next = subdivide(out, at, rule, h.first, less);
-    subdivide(out, next, rule, h.second, less)
+    let rung = 2 * (less as usize);
+    let h = c.chop_at(rule, rungs[rung], rungs[rung + 1]);
+    let next = subdivide(out, at, rungs, rule, h.first, less);
+    subdivide(out, next, rungs, rule, h.second, less)
 }
 
 // Whether each point of s, two numbers a point, passes the crate's finite test.
@@ -77,11 +102,13 @@ fn pin(out: &mut [f32], at: usize, p: Point, n: usize)
 
 // Stores all the points of the cut. Where one is not finite, all but the first and the last become c's middle point.
 pub fn store(out: &mut [f32], rule: Rule, c: Conic, level: u32)
-    requires { ⌜ 2 + 4 * 2 ^ level ≤ length (now out) ⌝ }
+    requires { ⌜ 2 + 4 * 2 ^ level ≤ length (now out) ⌝ ∗ ⌜ level ≤ 6 ⌝ }
     ensures { λ _. ⌜ now (out .exit) ≡ sets (now (out .entry)) 0 (flat (written (chopBy rule) level c)) ⌝ }
 {
+    let mut rungs = [0.0f32; 12];
+    ladder(&mut rungs, c.weight, level);
     let at = put(out, 0, c.p0);
-    let end = subdivide(out, at, rule, c, level);
+    let end = subdivide(out, at, &rungs, rule, c, level);
     if all_finite(&out[..end]) {
         return;
     }

@@ -1,18 +1,11 @@
--- `Conic::chop` meets its contract. Assumes nothing.
-use borrow.Author.Needs.{needs}
+-- `Conic::chop` meets its contract, by those of what it calls. Assumes nothing.
 use Rattle.conic.specs.Chop.{chopOf}
 use Rattle.conic.proofs.Conic.chop.Statement.{statement}
 use Rattle.conic.proofs.Conic.chop.Tie as tie
 
-chopped-requires : tie.Need-chopped-requires
-chopped-requires c κs = search needs
-
-halves-requires : tie.Need-halves-requires
-halves-requires c κs = search needs
-
 returns : tie.Need-returns
 unfolding chopOf
-returns c = rw (c .halves .ensures, c .before .chopped .ensures)
+returns c = rw (c .halves .ensures, c .before .before .chopped .ensures, c .before .subdivide-weight-value .ensures, c .before .before .before .scale .ensures)
 
 pub chop-spec : {M : Type 1} → statement M
-chop-spec = tie.close (tie.spec chopped-requires halves-requires returns)
+chop-spec = tie.close (tie.spec (λ c κs. tt) (λ c κs. tt) (λ c κs. tt) (λ c κs. tt) returns)

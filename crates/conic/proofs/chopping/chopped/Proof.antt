@@ -1,6 +1,6 @@
 -- `chopped` meets its contract, with both middles as first computed and with both through `f64`. Assumes nothing.
 use borrow.Author.Needs.{needs}
-use Rattle.conic.specs.Chop.{linesOf}
+use Rattle.conic.specs.Chop.{linesAt}
 use Rattle.conic.proofs.chopping.chopped.Statement.{statement}
 use Rattle.conic.proofs.chopping.chopped.Tie as tie
 
@@ -14,7 +14,7 @@ is-finite-requires : tie.Need-is-finite-requires
 is-finite-requires c κs = search needs
 
 returns : tie.Need-returns
-unfolding linesOf
+unfolding linesAt
 returns c = rw (← c .before .before .before .plain .ensures, ← c .before .before .plain2 .ensures, ← c .before .is-finite .ensures, c .if1 .taken)
 
 widened-requires : tie.Need-widened-requires
@@ -24,7 +24,7 @@ widened-requires-2 : tie.Need-widened-requires-2
 widened-requires-2 c κs = search needs
 
 returns-2 : tie.Need-returns-2
-unfolding linesOf
+unfolding linesAt
 returns-2 c =
     let was = c .before .before in
     rw (← was .before .before .before .plain .ensures, ← was .before .before .plain2 .ensures, ← was .before .is-finite .ensures, was .if1 .left, ← c .before .widened .ensures, ← c .widened2 .ensures)

@@ -1,11 +1,8 @@
 -- `halves` meets its contract. Assumes nothing.
 use borrow.Author.Needs.{needs}
-use Rattle.conic.specs.Chop.{halvesWith}
+use Rattle.conic.specs.Chop.{halvesAt}
 use Rattle.conic.proofs.chopping.halves.Statement.{statement}
 use Rattle.conic.proofs.chopping.halves.Tie as tie
-
-subdivide-weight-value-requires : tie.Need-subdivide-weight-value-requires
-subdivide-weight-value-requires c κs = search needs
 
 half-requires : tie.Need-half-requires
 half-requires c κs = search needs
@@ -14,9 +11,8 @@ half-requires-2 : tie.Need-half-requires-2
 half-requires-2 c κs = search needs
 
 returns : tie.Need-returns
-unfolding halvesWith
-returns c = rw (c .half2 .ensures, c .before .half .ensures, c .before .before .subdivide-weight-value .ensures)
+unfolding halvesAt
+returns c = rw (c .half2 .ensures, c .before .half .ensures)
 
 pub halves-spec : {M : Type 1} → statement M
-halves-spec =
-    tie.close (tie.spec subdivide-weight-value-requires half-requires half-requires-2 returns)
+halves-spec = tie.close (tie.spec half-requires half-requires-2 returns)

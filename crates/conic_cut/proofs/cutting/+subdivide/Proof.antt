@@ -6,7 +6,8 @@ use native.Mathlib.Omega.{arith}
 use borrow.Fn.Kinds.{In}
 use borrow.Fn.PlainCycle.{Measures, is, falls, and}
 use Rattle.conic.specs.Chop.{chopBy}
-use Rattle.conic.proofs.Conic.chop_by.Reads as chop-by-reads
+use Rattle.conic.proofs.Conic.chop_at.Reads as chop-at-reads
+use Rattle.conic_cut.proofs.Ladder.{rung, chop-rung}
 use Rattle.conic_cut.proofs.Stores.{pow-zero, pow-more, stored-zero, stored-more}
 use Rattle.conic_cut.proofs.cutting.subdivide.Reads as subdivide
 use Rattle.conic_cut.proofs.cutting.subdivide.Kinds as subdivide-kinds
@@ -16,32 +17,32 @@ use Rattle.conic_cut.proofs.cutting.+subdivide.{statement}
 use Rattle.conic_cut.proofs.cutting.+subdivide.Tie.{close}
 
 -- the level
-abbrev μ-subdivide : Measures 1 subdivide-kinds.ps ℕ
-μ-subdivide κs a = a .1 .1 .1 .1 .0
+abbrev μ-subdivide : Measures 2 subdivide-kinds.ps ℕ
+μ-subdivide κs a = a .1 .1 .1 .1 .1 .0
 
-abbrev subdivide-at : ℕ → In 1 subdivide-kinds.ps
-subdivide-at t = and 1 subdivide-kinds.ps (is 1 subdivide-kinds.ps μ-subdivide t) subdivide.Pre
+abbrev subdivide-at : ℕ → In 2 subdivide-kinds.ps
+subdivide-at t = and 2 subdivide-kinds.ps (is 2 subdivide-kinds.ps μ-subdivide t) subdivide.Pre
 
-abbrev subdivide-below : ℕ → In 1 subdivide-kinds.ps
+abbrev subdivide-below : ℕ → In 2 subdivide-kinds.ps
 subdivide-below t =
-    and 1 subdivide-kinds.ps (falls 1 subdivide-kinds.ps _<_ μ-subdivide t) subdivide.Pre
+    and 2 subdivide-kinds.ps (falls 2 subdivide-kinds.ps _<_ μ-subdivide t) subdivide.Pre
 
 -- what the calls ask and ensure
 abbrev calls : ℕ → subdivide-lts.Claims
 calls t =
-    (put-reads.Asked, put-reads.Learnt, chop-by-reads.Asked, chop-by-reads.Learnt, subdivide-below t, subdivide.Post)
+    (put-reads.Asked, put-reads.Learnt, chop-at-reads.Asked, chop-at-reads.Learnt, subdivide-below t, subdivide.Post)
 
 module _ (t : ℕ) where
   put-requires : subdivide-lts.Need-put-requires (calls t) (subdivide-at t) subdivide.Post
   put-requires c κs =
       let s = c .before .before .before in
-      omega (arith, s .pre .1, pow-zero (s .args .level) (c .before .if1 .taken))
+      omega (arith, s .pre .1 .0, pow-zero (s .args .level) (c .before .if1 .taken))
 
   put-requires-2 : subdivide-lts.Need-put-requires-2 (calls t) (subdivide-at t) subdivide.Post
   put-requires-2 c κs =
       let s = c .before .before .before .before .before .before .before in
       let first = c .before .before .before .put in
-      omega (arith, s .pre .1, pow-zero (s .args .level) (c .before .before .before .before .before .if1 .taken), first .ensures .0, first .kept .0)
+      omega (arith, s .pre .1 .0, pow-zero (s .args .level) (c .before .before .before .before .before .if1 .taken), first .ensures .0, first .kept .0)
 
   same-length : subdivide-lts.Need-same-length (calls t) (subdivide-at t) subdivide.Post
   same-length c = c .before .before .put2 .kept .0 ∙ c .before .before .before .before .before .before .put .kept .0
@@ -55,37 +56,74 @@ module _ (t : ℕ) where
       stored-zero (chopBy (a .rule)) (a .level) (a .c) (a .out .now) (first .last .0) (second .last .0) (a .at) (first .result) (second .result)
       (c .before .before .before .before .before .before .before .before .if1 .taken) (first .ensures) (second .ensures)
 
-  chop-by-requires : subdivide-lts.Need-chop-by-requires (calls t) (subdivide-at t) subdivide.Post
-  chop-by-requires c κs = tt
-
   sub-less : subdivide-lts.Need-sub-less (calls t) (subdivide-at t) subdivide.Post
-  sub-less c = pos-of-ne-zero (c .before .if1 .left)
+  sub-less c = pos-of-ne-zero (c .if1 .left)
+
+  cast-rung : subdivide-lts.Need-cast-rung (calls t) (subdivide-at t) subdivide.Post
+  cast-rung c = omega (arith, c .before .before .pre .1 .1 .0)
+
+  mul-rung : subdivide-lts.Need-mul-rung (calls t) (subdivide-at t) subdivide.Post
+  mul-rung c = omega (arith, c .before .before .pre .1 .1 .0)
+
+  mul-chop-at : subdivide-lts.Need-mul-chop-at (calls t) (subdivide-at t) subdivide.Post
+  mul-chop-at c = omega (arith, c .before .before .pre .1 .1 .0)
+
+  element-copy-out-chop-at : subdivide-lts.Need-element-copy-out-chop-at (calls t) (subdivide-at t) subdivide.Post
+  element-copy-out-chop-at c = omega (arith, c .before .before .pre .1 .1 .0)
+
+  add-chop-at : subdivide-lts.Need-add-chop-at (calls t) (subdivide-at t) subdivide.Post
+  add-chop-at c = omega (arith, c .before .before .before .pre .1 .1 .0)
+
+  mul-chop-at-2 : subdivide-lts.Need-mul-chop-at-2 (calls t) (subdivide-at t) subdivide.Post
+  mul-chop-at-2 c = omega (arith, c .before .before .before .pre .1 .1 .0)
+
+  element-copy-out-chop-at-2 : subdivide-lts.Need-element-copy-out-chop-at-2 (calls t) (subdivide-at t) subdivide.Post
+  element-copy-out-chop-at-2 c = omega (arith, c .before .before .before .pre .1 .1 .0)
+
+  chop-at-requires : subdivide-lts.Need-chop-at-requires (calls t) (subdivide-at t) subdivide.Post
+  chop-at-requires c κs = tt
 
   subdivide-requires : subdivide-lts.Need-subdivide-requires (calls t) (subdivide-at t) subdivide.Post
   subdivide-requires c κs =
-      let s = c .before .before .before .before in
-      let nz = c .before .before .if1 .left in
-      (omega (arith, s .pre .0, pos-of-ne-zero nz), omega (arith, s .pre .1, pow-more (s .args .level) nz))
+      let s = c .before .before .before .before .before .before in
+      let nz = c .before .before .before .before .if1 .left in
+      let r = rung (s .args .level) (s .args .rungs .now) (s .args .c .weight) nz (s .pre .1 .1 .1) in
+      let halved = c .before .chop-at in
+      let told = chop-rung (s .args .rule) (s .args .c) _ _ (halved .result) (r .0) (r .1 .0) (halved .ensures) in (
+        omega (arith, s .pre .0, pos-of-ne-zero nz),
+        (omega (arith, s .pre .1 .0, pow-more (s .args .level) nz), (omega (arith, s .pre .1 .1 .0), rw (told .1 .0) (r .1 .1))),
+      )
 
   subdivide-requires-2 : subdivide-lts.Need-subdivide-requires-2 (calls t) (subdivide-at t) subdivide.Post
   subdivide-requires-2 c κs =
-      let s = c .before .before .before .before .before .before .before .before in
-      let nz = c .before .before .before .before .before .before .if1 .left in
-      let first = c .before .before .before .subdivide in
-      (omega (arith, s .pre .0, pos-of-ne-zero nz), omega (arith, s .pre .1, pow-more (s .args .level) nz, first .ensures .0, first .kept .0))
+      let s = c .before .before .before .before .before .before .before .before .before .before in
+      let nz = c .before .before .before .before .before .before .before .before .if1 .left in
+      let r = rung (s .args .level) (s .args .rungs .now) (s .args .c .weight) nz (s .pre .1 .1 .1) in
+      let halved = c .before .before .before .before .before .chop-at in
+      let told = chop-rung (s .args .rule) (s .args .c) _ _ (halved .result) (r .0) (r .1 .0) (halved .ensures) in
+      let first = c .before .before .before .subdivide in (
+        omega (arith, s .pre .0, pos-of-ne-zero nz),
+        (
+          omega (arith, s .pre .1 .0, pow-more (s .args .level) nz, first .ensures .0, first .kept .0),
+          (omega (arith, s .pre .1 .1 .0), rw (told .1 .1) (r .1 .1)),
+        ),
+      )
 
   same-length-2 : subdivide-lts.Need-same-length-2 (calls t) (subdivide-at t) subdivide.Post
   same-length-2 c = c .before .before .subdivide2 .kept .0 ∙ c .before .before .before .before .before .before .subdivide .kept .0
 
   returns-2 : subdivide-lts.Need-returns-2 (calls t) (subdivide-at t) subdivide.Post
   returns-2 c =
-      let s = c .before .before .before .before .before .before .before .before .before .before .before in
+      let s = c .before .before .before .before .before .before .before .before .before .before .before .before .before in
+      let nz = c .before .before .before .before .before .before .before .before .before .before .before .if1 .left in
+      let r = rung (s .args .level) (s .args .rungs .now) (s .args .c .weight) nz (s .pre .1 .1 .1) in
+      let halved = c .before .before .before .before .before .before .before .before .chop-at in
+      let told = chop-rung (s .args .rule) (s .args .c) _ _ (halved .result) (r .0) (r .1 .0) (halved .ensures) in
       let a = s .args in
       let first = c .before .before .before .before .before .before .subdivide in
       let second = c .before .before .subdivide2 in
-      let halved = c .before .before .before .before .before .before .before .before .chop-by in
       stored-more (chopBy (a .rule)) (a .level) (a .c) (halved .result) (a .out .now) (first .last .0) (second .last .0) (a .at) (first .result) (second .result)
-      (c .before .before .before .before .before .before .before .before .before .if1 .left) (halved .ensures) (first .ensures) (second .ensures)
+      nz (told .0) (first .ensures) (second .ensures)
 
 pub +subdivide-spec : {M : Type 1} → statement M
 +subdivide-spec = close μ-subdivide λ t. subdivide-lts.spec (calls t)
@@ -95,8 +133,15 @@ pub +subdivide-spec : {M : Type 1} → statement M
     (put-requires-2 t)
     (same-length t)
     (returns t)
-    (chop-by-requires t)
     (sub-less t)
+    (cast-rung t)
+    (mul-rung t)
+    (mul-chop-at t)
+    (element-copy-out-chop-at t)
+    (add-chop-at t)
+    (mul-chop-at-2 t)
+    (element-copy-out-chop-at-2 t)
+    (chop-at-requires t)
     (subdivide-requires t)
     (subdivide-requires-2 t)
     (same-length-2 t)
