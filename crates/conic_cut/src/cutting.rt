@@ -4,7 +4,7 @@ ghost use mathlib.Core.List.{[], _∷_};
 ghost use Prim.Native.Nat.{_+_, _*_, _^_, _≤_};
 ghost use lib.ListN.{length, replicate};
 ghost use lib.Seq.{sets};
-ghost use Rattle.conic.specs.Chop.{chopBy};
+ghost use Rattle.conic.specs.Chop.{conicFrom, pointFrom, chopBy};
 ghost use Rattle.point.specs.Point.{flat};
 ghost use Rattle.conic_cut.specs.Ladder.{rungsOf, Rungs};
 ghost use Rattle.conic_cut.specs.Cut.{pointsOf, allFinite, cutPoints, written};
@@ -47,27 +47,65 @@ fn ladder(rungs: &mut [f32; 12], weight: f32, level: u32)
     }
 }
 
-// Stores all the points of the cut but the first from `at` on, and answers the next place.
+// Stores all the points of the cut but the first from `at` on, and answers the next place. The conic comes as plain
+// numbers, which stay in registers where a struct would go through memory.
 fn subdivide(
     out: &mut [f32],
     at: usize,
     rungs: &[f32; 12],
     rule: Rule,
-    c: Conic,
+    x0: f32,
+    y0: f32,
+    x1: f32,
+    y1: f32,
+    x2: f32,
+    y2: f32,
+    weight: f32,
     level: u32,
 ) -> usize
-    requires { ⌜ at + 4 * 2 ^ level ≤ length (now out) ⌝ ∗ ⌜ level ≤ 6 ⌝ ∗ ⌜ Rungs (now rungs) level (c .weight) ⌝ }
-    ensures { λ r. ⌜ (r ≡ at + 4 * 2 ^ level) × (now (out .exit) ≡ sets (now (out .entry)) at (flat (cutPoints (chopBy rule) level c))) ⌝ }
+    requires { ⌜ at + 4 * 2 ^ level ≤ length (now out) ⌝ ∗ ⌜ level ≤ 6 ⌝ ∗ ⌜ Rungs (now rungs) level weight ⌝ }
+    ensures { λ r. ⌜ (r ≡ at + 4 * 2 ^ level) × (now (out .exit) ≡ sets (now (out .entry)) at (flat (cutPoints (chopBy rule) level (conicFrom (pointFrom x0 y0) (pointFrom x1 y1) (pointFrom x2 y2) weight)))) ⌝ }
 {
+    let p1 = Point { x: x1, y: y1 };
+    let p2 = Point { x: x2, y: y2 };
     if level == 0 {
-        let next = put(out, at, c.p1);
-        return put(out, next, c.p2);
+        let next = put(out, at, p1);
+        return put(out, next, p2);
     }
     let less = level - 1;
     let rung = 2 * (less as usize);
-    let h = c.chop_at(rule, rungs[rung], rungs[rung + 1]);
-    let next = subdivide(out, at, rungs, rule, h.first, less);
-    subdivide(out, next, rungs, rule, h.second, less)
+    let p0 = Point { x: x0, y: y0 };
+    let h = Conic { p0, p1, p2, weight }.chop_at(rule, rungs[rung], rungs[rung + 1]);
+    let a = h.first;
+    let b = h.second;
+    let next = subdivide(
+        out,
+        at,
+        rungs,
+        rule,
+        a.p0.x,
+        a.p0.y,
+        a.p1.x,
+        a.p1.y,
+        a.p2.x,
+        a.p2.y,
+        a.weight,
+        less,
+    );
+    subdivide(
+        out,
+        next,
+        rungs,
+        rule,
+        b.p0.x,
+        b.p0.y,
+        b.p1.x,
+        b.p1.y,
+        b.p2.x,
+        b.p2.y,
+        b.weight,
+        less,
+    )
 }
 
 // Whether each point of s, two numbers a point, passes the crate's finite test.
@@ -108,7 +146,20 @@ pub fn store(out: &mut [f32], rule: Rule, c: Conic, level: u32)
     let mut rungs = [0.0f32; 12];
     ladder(&mut rungs, c.weight, level);
     let at = put(out, 0, c.p0);
-    let end = subdivide(out, at, &rungs, rule, c, level);
+    let end = subdivide(
+        out,
+        at,
+        &rungs,
+        rule,
+        c.p0.x,
+        c.p0.y,
+        c.p1.x,
+        c.p1.y,
+        c.p2.x,
+        c.p2.y,
+        c.weight,
+        level,
+    );
     if all_finite(&out[..end]) {
         return;
     }

@@ -3,9 +3,11 @@ use Prim.Native.Nat.{ℕ, _<_}
 use mathlib.Core.Path.{_∙_}
 use native.Mathlib.Nat.{pos-of-ne-zero}
 use native.Mathlib.Omega.{arith}
+use contract.Lifetimes.{Lfts}
 use borrow.Fn.Kinds.{In}
 use borrow.Fn.PlainCycle.{Measures, is, falls, and}
-use Rattle.conic.specs.Chop.{chopBy}
+use Rattle.conic.specs.declared.Conic.{Conic}
+use Rattle.conic.specs.Chop.{conicFrom, pointFrom, chopBy}
 use Rattle.conic.proofs.Conic.chop_at.Reads as chop-at-reads
 use Rattle.conic_cut.proofs.Ladder.{rung, chop-rung}
 use Rattle.conic_cut.proofs.Stores.{pow-zero, pow-more, stored-zero, stored-more}
@@ -18,7 +20,7 @@ use Rattle.conic_cut.proofs.cutting.+subdivide.Tie.{close}
 
 -- the level
 abbrev μ-subdivide : Measures 2 subdivide-kinds.ps ℕ
-μ-subdivide κs a = a .1 .1 .1 .1 .1 .0
+μ-subdivide κs a = a .1 .1 .1 .1 .1 .1 .1 .1 .1 .1 .1 .0
 
 abbrev subdivide-at : ℕ → In 2 subdivide-kinds.ps
 subdivide-at t = and 2 subdivide-kinds.ps (is 2 subdivide-kinds.ps μ-subdivide t) subdivide.Pre
@@ -33,6 +35,10 @@ calls t =
     (put-reads.Asked, put-reads.Learnt, chop-at-reads.Asked, chop-at-reads.Learnt, subdivide-below t, subdivide.Post)
 
 module _ (t : ℕ) where
+  -- the conic that the numbers make
+  abbrev conic : {κs : Lfts 2} → subdivide-lts.Args (calls t) (subdivide-at t) subdivide.Post κs → Conic
+  conic a = conicFrom (pointFrom (a .x0) (a .y0)) (pointFrom (a .x1) (a .y1)) (pointFrom (a .x2) (a .y2)) (a .weight)
+
   put-requires : subdivide-lts.Need-put-requires (calls t) (subdivide-at t) subdivide.Post
   put-requires c κs =
       let s = c .before .before .before in
@@ -53,7 +59,7 @@ module _ (t : ℕ) where
       let a = s .args in
       let first = c .before .before .before .before .before .before .put in
       let second = c .before .before .put2 in
-      stored-zero (chopBy (a .rule)) (a .level) (a .c) (a .out .now) (first .last .0) (second .last .0) (a .at) (first .result) (second .result)
+      stored-zero (chopBy (a .rule)) (a .level) (conic a) (a .out .now) (first .last .0) (second .last .0) (a .at) (first .result) (second .result)
       (c .before .before .before .before .before .before .before .before .if1 .taken) (first .ensures) (second .ensures)
 
   sub-less : subdivide-lts.Need-sub-less (calls t) (subdivide-at t) subdivide.Post
@@ -85,22 +91,22 @@ module _ (t : ℕ) where
 
   subdivide-requires : subdivide-lts.Need-subdivide-requires (calls t) (subdivide-at t) subdivide.Post
   subdivide-requires c κs =
-      let s = c .before .before .before .before .before .before in
-      let nz = c .before .before .before .before .if1 .left in
-      let r = rung (s .args .level) (s .args .rungs .now) (s .args .c .weight) nz (s .pre .1 .1 .1) in
-      let halved = c .before .chop-at in
-      let told = chop-rung (s .args .rule) (s .args .c) _ _ (halved .result) (r .0) (r .1 .0) (halved .ensures) in (
+      let s = c .before .before .before .before .before .before .before .before in
+      let nz = c .before .before .before .before .before .before .if1 .left in
+      let r = rung (s .args .level) (s .args .rungs .now) (s .args .weight) nz (s .pre .1 .1 .1) in
+      let halved = c .before .before .before .chop-at in
+      let told = chop-rung (s .args .rule) (conic (s .args)) _ _ (halved .result) (r .0) (r .1 .0) (halved .ensures) in (
         omega (arith, s .pre .0, pos-of-ne-zero nz),
         (omega (arith, s .pre .1 .0, pow-more (s .args .level) nz), (omega (arith, s .pre .1 .1 .0), rw (told .1 .0) (r .1 .1))),
       )
 
   subdivide-requires-2 : subdivide-lts.Need-subdivide-requires-2 (calls t) (subdivide-at t) subdivide.Post
   subdivide-requires-2 c κs =
-      let s = c .before .before .before .before .before .before .before .before .before .before in
-      let nz = c .before .before .before .before .before .before .before .before .if1 .left in
-      let r = rung (s .args .level) (s .args .rungs .now) (s .args .c .weight) nz (s .pre .1 .1 .1) in
-      let halved = c .before .before .before .before .before .chop-at in
-      let told = chop-rung (s .args .rule) (s .args .c) _ _ (halved .result) (r .0) (r .1 .0) (halved .ensures) in
+      let s = c .before .before .before .before .before .before .before .before .before .before .before .before in
+      let nz = c .before .before .before .before .before .before .before .before .before .before .if1 .left in
+      let r = rung (s .args .level) (s .args .rungs .now) (s .args .weight) nz (s .pre .1 .1 .1) in
+      let halved = c .before .before .before .before .before .before .before .chop-at in
+      let told = chop-rung (s .args .rule) (conic (s .args)) _ _ (halved .result) (r .0) (r .1 .0) (halved .ensures) in
       let first = c .before .before .before .subdivide in (
         omega (arith, s .pre .0, pos-of-ne-zero nz),
         (
@@ -114,15 +120,15 @@ module _ (t : ℕ) where
 
   returns-2 : subdivide-lts.Need-returns-2 (calls t) (subdivide-at t) subdivide.Post
   returns-2 c =
-      let s = c .before .before .before .before .before .before .before .before .before .before .before .before .before in
-      let nz = c .before .before .before .before .before .before .before .before .before .before .before .if1 .left in
-      let r = rung (s .args .level) (s .args .rungs .now) (s .args .c .weight) nz (s .pre .1 .1 .1) in
-      let halved = c .before .before .before .before .before .before .before .before .chop-at in
-      let told = chop-rung (s .args .rule) (s .args .c) _ _ (halved .result) (r .0) (r .1 .0) (halved .ensures) in
+      let s = c .before .before .before .before .before .before .before .before .before .before .before .before .before .before .before in
+      let nz = c .before .before .before .before .before .before .before .before .before .before .before .before .before .if1 .left in
+      let r = rung (s .args .level) (s .args .rungs .now) (s .args .weight) nz (s .pre .1 .1 .1) in
+      let halved = c .before .before .before .before .before .before .before .before .before .before .chop-at in
+      let told = chop-rung (s .args .rule) (conic (s .args)) _ _ (halved .result) (r .0) (r .1 .0) (halved .ensures) in
       let a = s .args in
       let first = c .before .before .before .before .before .before .subdivide in
       let second = c .before .before .subdivide2 in
-      stored-more (chopBy (a .rule)) (a .level) (a .c) (halved .result) (a .out .now) (first .last .0) (second .last .0) (a .at) (first .result) (second .result)
+      stored-more (chopBy (a .rule)) (a .level) (conic a) (halved .result) (a .out .now) (first .last .0) (second .last .0) (a .at) (first .result) (second .result)
       nz (told .0) (first .ensures) (second .ensures)
 
 pub +subdivide-spec : {M : Type 1} → statement M
