@@ -1,6 +1,6 @@
 // The corrections after a chop, along one axis. Carried over from `subdivide` in `path_geometry.rs` of tiny-skia-path 0.12.0.
 ghost use mathlib.Core.Path.{_≡_};
-ghost use mathlib.Core.Bool.{cond};
+ghost use mathlib.Core.Bool.{cond, _&&_};
 ghost use Rattle.conic.specs.Between.{test};
 ghost use Rattle.conic.specs.Mend.{nearerOf, orderedOf, mendedOf};
 use crate::Rule;
@@ -39,11 +39,24 @@ fn in_order(rule: Rule, a: f32, c: f32, l: Line) -> Line
     }
 }
 
-// The line of a chop from a to c: put in order where b lies between them.
+// Whether the middle and both controls are in order as they are.
+fn is_in_order(rule: Rule, a: f32, c: f32, l: Line) -> bool
+    ensures { λ r. ⌜ r ≡ (test rule a (l .middle) c && test rule a (l .left) (l .middle)) && test rule (l .middle) (l .right) c ⌝ }
+{
+    between(rule, a, l.middle, c)
+        & between(rule, a, l.left, l.middle)
+        & between(rule, l.middle, l.right, c)
+}
+
+// The line of a chop from a to c: put in order where b lies between them. Mostly it is in order as it is, and a branch
+// that is hardly ever taken costs less than to choose each number.
 pub fn mended(rule: Rule, a: f32, b: f32, c: f32, l: Line) -> Line
     ensures { λ r. ⌜ r ≡ mendedOf rule a b c l ⌝ }
 {
     if between(rule, a, b, c) {
+        if is_in_order(rule, a, c, l) {
+            return l;
+        }
         return in_order(rule, a, c, l);
     }
     l
