@@ -7,7 +7,7 @@ ghost use lib.Seq.{sets};
 ghost use Rattle.conic.specs.Chop.{conicFrom, pointFrom, chopBy};
 ghost use Rattle.point.specs.Point.{flat};
 ghost use Rattle.conic_cut.specs.Ladder.{rungsOf, Rungs};
-ghost use Rattle.conic_cut.specs.Cut.{pointsOf, allFinite, cutPoints, written};
+ghost use Rattle.conic_cut.specs.Cut.{pointsOf, allFinite, cutPoints, pinned, written};
 use conic::Conic;
 use conic::Rule;
 use point::Point;
@@ -139,7 +139,7 @@ fn pin(out: &mut [f32], at: usize, p: Point, n: usize)
 }
 
 // Stores all the points of the cut. Where one is not finite, all but the first and the last become c's middle point.
-pub fn store(out: &mut [f32], rule: Rule, c: Conic, level: u32)
+fn store_cut(out: &mut [f32], rule: Rule, c: Conic, level: u32)
     requires { ⌜ 2 + 4 * 2 ^ level ≤ length (now out) ⌝ ∗ ⌜ level ≤ 6 ⌝ }
     ensures { λ _. ⌜ now (out .exit) ≡ sets (now (out .entry)) 0 (flat (written (chopBy rule) level c)) ⌝ }
 {
@@ -165,4 +165,29 @@ pub fn store(out: &mut [f32], rule: Rule, c: Conic, level: u32)
     }
     let interior = end / 2 - 2;
     pin(out, at, c.p1, interior);
+}
+
+// Stores c's ends, with its middle point in every place between them.
+fn store_pinned(out: &mut [f32], c: Conic, level: u32)
+    requires { ⌜ 2 + 4 * 2 ^ level ≤ length (now out) ⌝ ∗ ⌜ level ≤ 6 ⌝ }
+    ensures { λ _. ⌜ now (out .exit) ≡ sets (now (out .entry)) 0 (flat (pinned level c)) ⌝ }
+{
+    let interior = 2 * quads(level) - 1;
+    let at = put(out, 0, c.p0);
+    pin(out, at, c.p1, interior);
+    put(out, at + 2 * interior, c.p2);
+}
+
+// The same as `store_cut`. Where an end is not finite the points are pinned whatever the cut is, so it is not made.
+pub fn store(out: &mut [f32], rule: Rule, c: Conic, level: u32)
+    requires { ⌜ 2 + 4 * 2 ^ level ≤ length (now out) ⌝ ∗ ⌜ level ≤ 6 ⌝ }
+    ensures { λ _. ⌜ now (out .exit) ≡ sets (now (out .entry)) 0 (flat (written (chopBy rule) level c)) ⌝ }
+{
+    let p0 = c.p0;
+    let p2 = c.p2;
+    if p0.is_finite() & p2.is_finite() {
+        store_cut(out, rule, c, level);
+        return;
+    }
+    store_pinned(out, c, level);
 }
