@@ -1,6 +1,7 @@
 // Writes the list that the program `replay` reads: for each call of the table in calls.rs, inputs from a seed and what
 // the original gives on them. A record is 20 words of 32 bits, the lowest byte first: the place of the call in the
 // table, the twelve floats, the double, the two lengths and the level of its input, and the two sums over its output.
+// Before the records of a call stands one that names it: 2^32 - 1, the name, and where that ends in word 19.
 // Writes to standard error what the program must then write.
 #[allow(dead_code)] // some of it is for the comparison alone
 mod calls;
@@ -29,6 +30,15 @@ fn record(call: usize, case: &Case, out: &Output) -> Vec<u32> {
     words
 }
 
+fn title(name: &str) -> [u8; 80] {
+    let mut bytes = [0; 80];
+    let end = 4 + name.len();
+    bytes[..4].fill(0xff);
+    bytes[4..end].copy_from_slice(name.as_bytes());
+    bytes[76..].copy_from_slice(&(end as u32).to_le_bytes());
+    bytes
+}
+
 fn main() {
     std::panic::set_hook(Box::new(|_| {}));
     let seed = std::env::args().nth(1).map_or(1, |s| s.parse().expect("a seed"));
@@ -36,6 +46,7 @@ fn main() {
     let mut list = std::io::BufWriter::new(std::io::stdout());
     let mut out = Output::new();
     for (k, call) in CALLS.iter().enumerate() {
+        list.write_all(&title(call.name)).unwrap();
         for _ in 0..call.listed {
             let mut case = Case { f: [0.0; 12], x: 0.0, len: [0; 2], level: 0 };
             (call.make)(&mut inputs, &mut case);

@@ -1,33 +1,38 @@
 // The calls of the float ground, and those that test floats.
+use super::record;
 use super::sum;
 use super::sum::Sum;
 use nyerdzumak::conics;
 use nyerdzumak::ground;
 
 fn of_float(x: f32) -> Sum {
-    let a = sum::flag(sum::start(), ground::nz_is_finite_f32(x));
+    let a = sum::flag(sum::START, ground::nz_is_finite_f32(x));
     let b = sum::float(a, ground::nz_abs_f32(x));
     let c = sum::double(b, ground::nz_widen(x));
     sum::float(c, ground::nz_sqrt_f32(x))
 }
 
 fn of_double(x: f64) -> Sum {
-    let a = sum::flag(sum::start(), ground::nz_is_finite_f64(x));
+    let a = sum::flag(sum::START, ground::nz_is_finite_f64(x));
     let b = sum::float(a, ground::nz_narrow(x));
     sum::double(b, ground::nz_sqrt_f64(x))
 }
 
 fn tests(a: f32, b: f32, c: f32) -> Sum {
-    let s = sum::flag(sum::start(), ground::nz_point_is_finite(a, b));
+    let s = sum::flag(sum::START, ground::nz_point_is_finite(a, b));
     let t = sum::flag(s, conics::nz_between_product(a, b, c));
     sum::flag(t, conics::nz_between_exact(a, b, c))
 }
 
 // What the calls of number k give.
-pub fn called(k: u32, f: &[f32; 12], x: f64) -> Sum {
+pub fn called(k: u32, r: &[u8; 80]) -> Sum {
     match k {
-        0 => of_float(f[0]),
-        1 => of_double(x),
-        _ => tests(f[0], f[1], f[2]),
+        0 => of_float(record::float_at(r, 1)),
+        1 => of_double(record::double_at(r)),
+        _ => tests(
+            record::float_at(r, 1),
+            record::float_at(r, 2),
+            record::float_at(r, 3),
+        ),
     }
 }

@@ -1,20 +1,21 @@
 // The transforms' calls. A matrix is six numbers, in the order of `from_row`.
+use super::record;
 use super::sum;
 use super::sum::Sum;
 use nyerdzumak::kinds;
 use nyerdzumak::transforms;
 
-// What stands in six lent places before a call.
-const STOOD: [f32; 6] = [7000.0, 7001.0, 7002.0, 7003.0, 7004.0, 7005.0];
-
-fn is_kinds(s: Sum, m: &[f32; 6]) -> Sum {
+fn three_kinds(s: Sum, m: &[f32; 6]) -> Sum {
     let a = sum::flag(s, kinds::nz_transform_is_finite(m));
     let b = sum::flag(a, kinds::nz_transform_is_valid(m));
-    let c = sum::flag(b, kinds::nz_transform_is_identity(m));
-    let d = sum::flag(c, kinds::nz_transform_is_scale(m));
-    let e = sum::flag(d, kinds::nz_transform_is_skew(m));
-    let f = sum::flag(e, kinds::nz_transform_is_translate(m));
-    sum::flag(f, kinds::nz_transform_is_scale_translate(m))
+    sum::flag(b, kinds::nz_transform_is_identity(m))
+}
+
+fn pure_kinds(s: Sum, m: &[f32; 6]) -> Sum {
+    let a = sum::flag(s, kinds::nz_transform_is_scale(m));
+    let b = sum::flag(a, kinds::nz_transform_is_skew(m));
+    let c = sum::flag(b, kinds::nz_transform_is_translate(m));
+    sum::flag(c, kinds::nz_transform_is_scale_translate(m))
 }
 
 fn has_kinds(s: Sum, m: &[f32; 6]) -> Sum {
@@ -24,146 +25,109 @@ fn has_kinds(s: Sum, m: &[f32; 6]) -> Sum {
 }
 
 fn all_kinds(m: &[f32; 6]) -> Sum {
-    let s = has_kinds(is_kinds(sum::start(), m), m);
+    let s = has_kinds(pure_kinds(three_kinds(sum::START, m), m), m);
     let mut scale = [7000.0f32, 7001.0];
     let number = kinds::nz_transform_get_scale(m, &mut scale);
     sum::two(s, number, &scale)
 }
 
-fn identity(s: Sum) -> Sum {
-    let mut out = STOOD;
-    let number = transforms::nz_transform_identity(&mut out);
+fn made(j: u32, x: f32, y: f32, out: &mut [f32; 6]) -> u32 {
+    match j {
+        0 => transforms::nz_transform_identity(out),
+        1 => transforms::nz_transform_from_translate(x, y, out),
+        2 => transforms::nz_transform_from_scale(x, y, out),
+        _ => transforms::nz_transform_from_skew(x, y, out),
+    }
+}
+
+fn moved(j: u32, m: &[f32; 6], x: f32, y: f32, out: &mut [f32; 6]) -> u32 {
+    match j {
+        0 => transforms::nz_transform_pre_scale(m, x, y, out),
+        1 => transforms::nz_transform_post_scale(m, x, y, out),
+        2 => transforms::nz_transform_pre_translate(m, x, y, out),
+        _ => transforms::nz_transform_post_translate(m, x, y, out),
+    }
+}
+
+fn product(j: u32, a: &[f32; 6], b: &[f32; 6], out: &mut [f32; 6]) -> u32 {
+    match j {
+        0 => transforms::nz_transform_pre_concat(a, b, out),
+        _ => transforms::nz_transform_post_concat(a, b, out),
+    }
+}
+
+// The matrix of the call j of those of number k.
+fn matrix(k: u32, j: u32, r: &[u8; 80], m: &[f32; 6], out: &mut [f32; 6]) -> u32 {
+    match k {
+        21 => made(j, record::float_at(r, 1), record::float_at(r, 2), out),
+        22 => {
+            let b = record::second(r);
+            product(j, m, &b, out)
+        }
+        23 => moved(j, m, record::float_at(r, 7), record::float_at(r, 8), out),
+        _ => transforms::nz_transform_invert(m, out),
+    }
+}
+
+fn row(s: Sum, k: u32, j: u32, r: &[u8; 80], m: &[f32; 6]) -> Sum {
+    let mut out = [7000.0f32, 7001.0, 7002.0, 7003.0, 7004.0, 7005.0];
+    let number = matrix(k, j, r, m, &mut out);
     sum::six(s, number, &out)
 }
 
-fn from_translate(s: Sum, x: f32, y: f32) -> Sum {
-    let mut out = STOOD;
-    let number = transforms::nz_transform_from_translate(x, y, &mut out);
-    sum::six(s, number, &out)
-}
-
-fn from_scale(s: Sum, x: f32, y: f32) -> Sum {
-    let mut out = STOOD;
-    let number = transforms::nz_transform_from_scale(x, y, &mut out);
-    sum::six(s, number, &out)
-}
-
-fn from_skew(s: Sum, x: f32, y: f32) -> Sum {
-    let mut out = STOOD;
-    let number = transforms::nz_transform_from_skew(x, y, &mut out);
-    sum::six(s, number, &out)
-}
-
-fn made(x: f32, y: f32) -> Sum {
-    let s = from_translate(identity(sum::start()), x, y);
-    from_skew(from_scale(s, x, y), x, y)
-}
-
-fn pre_concat(s: Sum, a: &[f32; 6], b: &[f32; 6]) -> Sum {
-    let mut out = STOOD;
-    let number = transforms::nz_transform_pre_concat(a, b, &mut out);
-    sum::six(s, number, &out)
-}
-
-fn post_concat(s: Sum, a: &[f32; 6], b: &[f32; 6]) -> Sum {
-    let mut out = STOOD;
-    let number = transforms::nz_transform_post_concat(a, b, &mut out);
-    sum::six(s, number, &out)
-}
-
-fn pre_scale(s: Sum, m: &[f32; 6], x: f32, y: f32) -> Sum {
-    let mut out = STOOD;
-    let number = transforms::nz_transform_pre_scale(m, x, y, &mut out);
-    sum::six(s, number, &out)
-}
-
-fn post_scale(s: Sum, m: &[f32; 6], x: f32, y: f32) -> Sum {
-    let mut out = STOOD;
-    let number = transforms::nz_transform_post_scale(m, x, y, &mut out);
-    sum::six(s, number, &out)
-}
-
-fn pre_translate(s: Sum, m: &[f32; 6], x: f32, y: f32) -> Sum {
-    let mut out = STOOD;
-    let number = transforms::nz_transform_pre_translate(m, x, y, &mut out);
-    sum::six(s, number, &out)
-}
-
-fn post_translate(s: Sum, m: &[f32; 6], x: f32, y: f32) -> Sum {
-    let mut out = STOOD;
-    let number = transforms::nz_transform_post_translate(m, x, y, &mut out);
-    sum::six(s, number, &out)
-}
-
-fn moved(m: &[f32; 6], x: f32, y: f32) -> Sum {
-    let s = post_scale(pre_scale(sum::start(), m, x, y), m, x, y);
-    post_translate(pre_translate(s, m, x, y), m, x, y)
-}
-
-fn invert(m: &[f32; 6]) -> Sum {
-    let mut out = STOOD;
-    let number = transforms::nz_transform_invert(m, &mut out);
-    sum::six(sum::start(), number, &out)
+// What the first n calls of number k give.
+fn rows(n: u32, k: u32, r: &[u8; 80], m: &[f32; 6]) -> Sum {
+    let mut s = sum::START;
+    let mut j = 0;
+    while j < n {
+        s = row(s, k, j, r, m);
+        j += 1;
+    }
+    s
 }
 
 fn map_point(m: &[f32; 6], x: f32, y: f32) -> Sum {
     let mut point = [x, y];
     let number = transforms::nz_transform_map_point(m, &mut point);
-    sum::two(sum::start(), number, &point)
+    sum::two(sum::START, number, &point)
+}
+
+// Maps the numbers where they stand, and answers the call's number.
+pub fn map_numbers(r: &[u8; 80], numbers: &mut [f32]) -> u32 {
+    let m = record::first(r);
+    transforms::nz_transform_map_numbers(&m, numbers)
 }
 
 fn place(k: usize, n: usize, x: f32, stood: f32) -> f32 {
     if k < n { x } else { stood }
 }
 
-// Eight places, the first n of them taken from b.
-fn eight(b: &[f32; 6], n: usize) -> [f32; 8] {
+// Eight places, the first n of which hold the last numbers of a record, and the others what stood there.
+pub fn eight(r: &[u8; 80], n: usize) -> [f32; 8] {
     [
-        place(0, n, b[0], 7000.0),
-        place(1, n, b[1], 7001.0),
-        place(2, n, b[2], 7002.0),
-        place(3, n, b[3], 7003.0),
-        place(4, n, b[4], 7004.0),
-        place(5, n, b[5], 7005.0),
+        place(0, n, record::float_at(r, 7), 7000.0),
+        place(1, n, record::float_at(r, 8), 7001.0),
+        place(2, n, record::float_at(r, 9), 7002.0),
+        place(3, n, record::float_at(r, 10), 7003.0),
+        place(4, n, record::float_at(r, 11), 7004.0),
+        place(5, n, record::float_at(r, 12), 7005.0),
         7006.0,
         7007.0,
     ]
 }
 
-fn map_numbers(m: &[f32; 6], n: usize, numbers: &mut [f32]) -> Sum {
-    if n > numbers.len() {
-        return sum::start();
-    }
-    let number = transforms::nz_transform_map_numbers(m, &mut numbers[0..n]);
-    sum::given(number, numbers)
-}
-
-// Lends the first n places of eight, and all of them count.
-fn mapped(m: &[f32; 6], b: &[f32; 6], n: usize) -> Sum {
-    let mut numbers = eight(b, n);
-    map_numbers(m, n, &mut numbers)
-}
-
-fn first(f: &[f32; 12]) -> [f32; 6] {
-    [f[0], f[1], f[2], f[3], f[4], f[5]]
-}
-
-fn second(f: &[f32; 12]) -> [f32; 6] {
-    [f[6], f[7], f[8], f[9], f[10], f[11]]
-}
-
-// What the calls of number k give, with n numbers to map.
-pub fn called(k: u32, f: &[f32; 12], n: usize) -> Sum {
-    let m = first(f);
-    let b = second(f);
+fn on_matrix(k: u32, r: &[u8; 80], m: &[f32; 6]) -> Sum {
     match k {
-        20 => all_kinds(&m),
-        21 => made(f[0], f[1]),
-        22 => post_concat(pre_concat(sum::start(), &m, &b), &m, &b),
-        23 => moved(&m, f[6], f[7]),
-        24 => invert(&m),
-        25 => map_point(&m, f[6], f[7]),
-        26 => mapped(&m, &b, n),
-        _ => sum::start(),
+        20 => all_kinds(m),
+        21 | 23 => rows(4, k, r, m),
+        22 => rows(2, k, r, m),
+        24 => rows(1, k, r, m),
+        _ => map_point(m, record::float_at(r, 7), record::float_at(r, 8)),
     }
+}
+
+// What the calls of number k give.
+pub fn called(k: u32, r: &[u8; 80]) -> Sum {
+    let m = record::first(r);
+    on_matrix(k, r, &m)
 }

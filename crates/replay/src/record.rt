@@ -15,17 +15,17 @@ pub fn word_at(r: &[u8; 80], k: usize) -> u32 {
     joined(r[i], r[i + 1], r[i + 2], r[i + 3])
 }
 
-// Words k and k + 1 as one, the lower first.
+// Word k as a length.
+pub fn length_at(r: &[u8; 80], k: usize) -> usize {
+    word_at(r, k) as usize
+}
+
+// Words k and k + 1 as one number, the lower first.
 pub fn pair_at(r: &[u8; 80], k: usize) -> u64 {
     if k > 18 {
         return 0;
     }
     (word_at(r, k) as u64) + (word_at(r, k + 1) as u64) * 4294967296
-}
-
-// A length, or a number above every length that is taken.
-pub fn length_at(r: &[u8; 80], k: usize) -> usize {
-    word_at(r, k) as usize
 }
 
 fn from_word(b: u32) -> f32 {
@@ -47,11 +47,36 @@ pub fn double_at(r: &[u8; 80]) -> f64 {
     from_pair(pair_at(r, 13))
 }
 
-fn float_at(r: &[u8; 80], k: usize) -> f32 {
+// Word k of a record as a float.
+pub fn float_at(r: &[u8; 80], k: usize) -> f32 {
     from_word(word_at(r, k))
 }
 
-// The floats of a record.
+// The first six floats of a record.
+pub fn first(r: &[u8; 80]) -> [f32; 6] {
+    [
+        float_at(r, 1),
+        float_at(r, 2),
+        float_at(r, 3),
+        float_at(r, 4),
+        float_at(r, 5),
+        float_at(r, 6),
+    ]
+}
+
+// The last six.
+pub fn second(r: &[u8; 80]) -> [f32; 6] {
+    [
+        float_at(r, 7),
+        float_at(r, 8),
+        float_at(r, 9),
+        float_at(r, 10),
+        float_at(r, 11),
+        float_at(r, 12),
+    ]
+}
+
+// All twelve.
 pub fn floats(r: &[u8; 80]) -> [f32; 12] {
     [
         float_at(r, 1),

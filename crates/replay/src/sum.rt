@@ -3,9 +3,7 @@
 pub type Sum = u64;
 
 // Nothing yet.
-pub fn start() -> Sum {
-    4294967297
-}
+pub const START: Sum = 4294967297;
 
 // The sums with one word more.
 pub fn word(s: Sum, w: u32) -> Sum {
@@ -62,21 +60,14 @@ pub fn floats(s: Sum, xs: &[f32]) -> Sum {
     t
 }
 
-// A call's number, and then all of the buffer that it was lent.
-pub fn given(number: u32, xs: &[f32]) -> Sum {
-    floats(word(start(), number), xs)
-}
-
-// The same of two places.
+// A call's number, and then the two places that it was lent.
 pub fn two(s: Sum, number: u32, xs: &[f32; 2]) -> Sum {
-    float(float(word(s, number), xs[0]), xs[1])
+    floats(word(s, number), xs)
 }
 
 // The same of six places.
 pub fn six(s: Sum, number: u32, xs: &[f32; 6]) -> Sum {
-    let a = float(float(word(s, number), xs[0]), xs[1]);
-    let b = float(float(a, xs[2]), xs[3]);
-    float(float(b, xs[4]), xs[5])
+    floats(word(s, number), xs)
 }
 
 // Sets lent memory to what stands there before a call: in place k the number 7000 + k.

@@ -1,4 +1,5 @@
 // The list, read record by record from standard input and counted call by call.
+use super::of_buffers;
 use super::of_conics;
 use super::of_ground;
 use super::of_roots;
@@ -12,7 +13,6 @@ use libc::STDOUT_FILENO;
 
 // Of the call at hand: how many records there were, and in how many the answer was the original's.
 pub struct Tally {
-    pub call: u32,
     pub all: u64,
     pub same: u64,
 }
@@ -22,33 +22,29 @@ pub enum Step {
     End(Tally),
 }
 
+fn on_points(k: u32, r: &[u8; 80], src: &[f32]) -> Sum {
+    match k {
+        8 | 9 | 10 | 11 | 14 => of_shapes::called(k, src, record::float_at(r, 9)),
+        15 | 16 | 19 => {
+            of_conics::called(k, src, record::float_at(r, 7), record::float_at(r, 8))
+        }
+        _ => of_buffers::called(k, r, src),
+    }
+}
+
+fn with_points(k: u32, r: &[u8; 80]) -> Sum {
+    let f = record::floats(r);
+    on_points(k, r, record::front(&f, record::length_at(r, 15)))
+}
+
 // What the calls of number k give on the record's input.
 fn replayed(k: u32, r: &[u8; 80]) -> Sum {
-    let f = record::floats(r);
-    let n = record::length_at(r, 15);
-    let m = record::length_at(r, 16);
-    if k < 3 {
-        of_ground::called(k, &f, record::double_at(r))
-    } else if k < 7 {
-        of_roots::called(k, &f)
-    } else if k < 8 {
-        of_roots::find_cubic_inflections(record::front(&f, n))
-    } else if k < 15 {
-        let t = f[8];
-        of_shapes::called(k, record::front(&f, n), t, m)
-    } else if k < 20 {
-        let weight = f[6];
-        let tolerance = f[7];
-        of_conics::called(
-            k,
-            record::front(&f, n),
-            weight,
-            tolerance,
-            record::word_at(r, 17),
-            m,
-        )
-    } else {
-        of_transforms::called(k, &f, n)
+    match k {
+        0..=2 => of_ground::called(k, r),
+        3..=7 => of_roots::called(k, r),
+        20..=25 => of_transforms::called(k, r),
+        8..=19 | 26 => with_points(k, r),
+        _ => sum::START,
     }
 }
 
@@ -56,43 +52,8 @@ fn text(t: &[u8]) {
     io::write_all(STDOUT_FILENO, t);
 }
 
-// Writes the name of the call of number k.
-fn name(k: u32) {
-    match k {
-        0 => text(b"is_finite_f32, abs_f32, widen, sqrt_f32"),
-        1 => text(b"is_finite_f64, narrow, sqrt_f64"),
-        2 => text(b"point_is_finite, between_product, between_exact"),
-        3 => text(b"valid_unit_divide"),
-        4 => text(b"find_unit_quad_roots"),
-        5 => text(b"find_quad_extrema"),
-        6 => text(b"find_cubic_extrema"),
-        7 => text(b"find_cubic_inflections"),
-        8 => text(b"eval_quad_at"),
-        9 => text(b"eval_quad_tangent_at"),
-        10 => text(b"eval_cubic_pos_at"),
-        11 => text(b"eval_cubic_tangent_at"),
-        12 => text(b"chop_quad_at"),
-        13 => text(b"chop_cubic_at2"),
-        14 => text(b"find_quad_max_curvature"),
-        15 => text(b"conic_chop"),
-        16 => text(b"conic_compute_quad_pow2"),
-        17 => text(b"conic_chop_into_quads_pow2"),
-        18 => text(b"cut_in_order"),
-        19 => text(b"auto_conic_to_quads"),
-        20 => text(b"transform: the ten kinds and get_scale"),
-        21 => text(b"transform: identity, from_translate, from_scale, from_skew"),
-        22 => text(b"transform: pre_concat and post_concat"),
-        23 => text(b"transform: pre_scale, post_scale, pre_translate, post_translate"),
-        24 => text(b"transform: invert"),
-        25 => text(b"transform: map_point"),
-        26 => text(b"transform: map_numbers"),
-        _ => text(b"unknown"),
-    }
-}
-
-// Writes the line of a call.
+// Writes the rest of the line of a call, after its name.
 fn line(t: Tally) {
-    name(t.call);
     text(b" ");
     io::print_decimal(STDOUT_FILENO, t.same);
     text(b" of ");
@@ -100,31 +61,36 @@ fn line(t: Tally) {
     text(b"\n");
 }
 
+// Writes the name of a call: the bytes of a record from its second word up to an end.
+fn title(r: &[u8], end: usize) {
+    if end < 4 {
+        return;
+    }
+    if end > r.len() {
+        return;
+    }
+    text(&r[4..end]);
+}
+
 // The tally with one record more.
 fn counted(t: Tally, r: &[u8; 80]) -> Tally {
     let mut same = t.same;
-    if replayed(t.call, r) == record::pair_at(r, 18) {
+    if replayed(record::word_at(r, 0), r) == record::pair_at(r, 18) {
         same = std::num::wrapping_add_u64(same, 1);
     }
     Tally {
-        call: t.call,
         all: std::num::wrapping_add_u64(t.all, 1),
         same,
     }
 }
 
-// The tally where a record of the call k comes next: where that is another call, the line of the one at
-// hand is written.
-fn turned(t: Tally, k: u32) -> Tally {
-    if t.call == k {
-        return t;
+// The tally where a record names the call of those that follow: the line of the one at hand is ended.
+fn turned(t: Tally, r: &[u8; 80]) -> Tally {
+    if t.all > 0 {
+        line(t);
     }
-    line(t);
-    Tally {
-        call: k,
-        all: 0,
-        same: 0,
-    }
+    title(r, record::length_at(r, 19));
+    Tally { all: 0, same: 0 }
 }
 
 fn taken(t: Tally) -> Step {
@@ -132,17 +98,16 @@ fn taken(t: Tally) -> Step {
     if io::read_full(STDIN_FILENO, &mut r) < 80 {
         return Step::End(t);
     }
-    Step::More(counted(turned(t, record::word_at(&r, 0)), &r))
+    if record::word_at(&r, 0) == 0xffff_ffff {
+        return Step::More(turned(t, &r));
+    }
+    Step::More(counted(t, &r))
 }
 
 // A proved loop has to end, and nothing says that the input does: it counts its turns down from a number
 // that no list uses up.
 pub fn run() {
-    let mut t = Tally {
-        call: 0,
-        all: 0,
-        same: 0,
-    };
+    let mut t = Tally { all: 0, same: 0 };
     let mut turns = u64::MAX;
     while turns > 0 {
         match taken(t) {
