@@ -18,25 +18,25 @@ fn two(k: u32, r: &[u8; 80], places: &mut [f32; 2], count: &mut u32) -> u32 {
     let a = record::float_at(r, 1);
     let b = record::float_at(r, 2);
     let c = record::float_at(r, 3);
+    let d = record::float_at(r, 4);
     match k {
         4 => roots::nz_find_unit_quad_roots(a, b, c, places, count),
-        _ => roots::nz_find_cubic_extrema(a, b, c, record::float_at(r, 4), places, count),
+        _ => roots::nz_find_cubic_extrema(a, b, c, d, places, count),
     }
-}
-
-fn of_points(r: &[u8; 80], places: &mut [f32; 2], count: &mut u32) -> u32 {
-    let f = record::floats(r);
-    let src = record::front(&f, record::length_at(r, 15));
-    roots::nz_find_cubic_inflections(src, places, count)
 }
 
 fn at_most_two(k: u32, r: &[u8; 80]) -> Sum {
     let mut places = [7000.0f32, 7001.0];
     let mut count = 77;
-    let number = match k {
-        7 => of_points(r, &mut places, &mut count),
-        _ => two(k, r, &mut places, &mut count),
-    };
+    let number = two(k, r, &mut places, &mut count);
+    sum::two(sum::word(sum::START, number), count, &places)
+}
+
+// What the call gives that is lent its numbers.
+pub fn find_cubic_inflections(src: &[f32]) -> Sum {
+    let mut places = [7000.0f32, 7001.0];
+    let mut count = 77;
+    let number = roots::nz_find_cubic_inflections(src, &mut places, &mut count);
     sum::two(sum::word(sum::START, number), count, &places)
 }
 

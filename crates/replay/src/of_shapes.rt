@@ -13,22 +13,16 @@ fn at(k: u32, src: &[f32], t: f32, out: &mut [f32; 2]) -> u32 {
     }
 }
 
-fn evaluated(k: u32, src: &[f32], t: f32) -> Sum {
+// What the call of number k gives.
+pub fn evaluated(k: u32, r: &[u8; 80], src: &[f32]) -> Sum {
     let mut p = [7000.0f32, 7001.0];
-    let number = at(k, src, t, &mut p);
+    let number = at(k, src, record::float_at(r, 9), &mut p);
     sum::two(sum::START, number, &p)
 }
 
-fn curvature(src: &[f32]) -> Sum {
+// What the call for the greatest curvature gives.
+pub fn curvature(src: &[f32]) -> Sum {
     let mut t = 7000.0f32;
     let number = shapes::nz_find_quad_max_curvature(src, &mut t);
     sum::float(sum::word(sum::START, number), t)
-}
-
-// What the call of number k gives on the numbers of src.
-pub fn called(k: u32, src: &[f32], t: f32) -> Sum {
-    match k {
-        14 => curvature(src),
-        _ => evaluated(k, src, t),
-    }
 }

@@ -31,56 +31,35 @@ fn all_kinds(m: &[f32; 6]) -> Sum {
     sum::two(s, number, &scale)
 }
 
-fn made(j: u32, x: f32, y: f32, out: &mut [f32; 6]) -> u32 {
+// Call j of those that give a matrix.
+fn matrix(j: u32, m: &[f32; 6], b: &[f32; 6], x: f32, y: f32, out: &mut [f32; 6]) -> u32 {
     match j {
         0 => transforms::nz_transform_identity(out),
         1 => transforms::nz_transform_from_translate(x, y, out),
         2 => transforms::nz_transform_from_scale(x, y, out),
-        _ => transforms::nz_transform_from_skew(x, y, out),
-    }
-}
-
-fn moved(j: u32, m: &[f32; 6], x: f32, y: f32, out: &mut [f32; 6]) -> u32 {
-    match j {
-        0 => transforms::nz_transform_pre_scale(m, x, y, out),
-        1 => transforms::nz_transform_post_scale(m, x, y, out),
-        2 => transforms::nz_transform_pre_translate(m, x, y, out),
-        _ => transforms::nz_transform_post_translate(m, x, y, out),
-    }
-}
-
-fn product(j: u32, a: &[f32; 6], b: &[f32; 6], out: &mut [f32; 6]) -> u32 {
-    match j {
-        0 => transforms::nz_transform_pre_concat(a, b, out),
-        _ => transforms::nz_transform_post_concat(a, b, out),
-    }
-}
-
-// The matrix of the call j of those of number k.
-fn matrix(k: u32, j: u32, r: &[u8; 80], m: &[f32; 6], out: &mut [f32; 6]) -> u32 {
-    match k {
-        21 => made(j, record::float_at(r, 1), record::float_at(r, 2), out),
-        22 => {
-            let b = record::second(r);
-            product(j, m, &b, out)
-        }
-        23 => moved(j, m, record::float_at(r, 7), record::float_at(r, 8), out),
+        3 => transforms::nz_transform_from_skew(x, y, out),
+        4 => transforms::nz_transform_pre_concat(m, b, out),
+        5 => transforms::nz_transform_post_concat(m, b, out),
+        6 => transforms::nz_transform_pre_scale(m, x, y, out),
+        7 => transforms::nz_transform_post_scale(m, x, y, out),
+        8 => transforms::nz_transform_pre_translate(m, x, y, out),
+        9 => transforms::nz_transform_post_translate(m, x, y, out),
         _ => transforms::nz_transform_invert(m, out),
     }
 }
 
-fn row(s: Sum, k: u32, j: u32, r: &[u8; 80], m: &[f32; 6]) -> Sum {
+fn row(s: Sum, j: u32, m: &[f32; 6], b: &[f32; 6], x: f32, y: f32) -> Sum {
     let mut out = [7000.0f32, 7001.0, 7002.0, 7003.0, 7004.0, 7005.0];
-    let number = matrix(k, j, r, m, &mut out);
+    let number = matrix(j, m, b, x, y, &mut out);
     sum::six(s, number, &out)
 }
 
-// What the first n calls of number k give.
-fn rows(n: u32, k: u32, r: &[u8; 80], m: &[f32; 6]) -> Sum {
+// What the calls from one on and before another give.
+fn rows(from: u32, to: u32, m: &[f32; 6], b: &[f32; 6], x: f32, y: f32) -> Sum {
     let mut s = sum::START;
-    let mut j = 0;
-    while j < n {
-        s = row(s, k, j, r, m);
+    let mut j = from;
+    while j < to {
+        s = row(s, j, m, b, x, y);
         j += 1;
     }
     s
@@ -116,18 +95,22 @@ pub fn eight(r: &[u8; 80], n: usize) -> [f32; 8] {
     ]
 }
 
-fn on_matrix(k: u32, r: &[u8; 80], m: &[f32; 6]) -> Sum {
+fn on_matrices(k: u32, r: &[u8; 80], m: &[f32; 6], b: &[f32; 6]) -> Sum {
+    let x = record::float_at(r, 7);
+    let y = record::float_at(r, 8);
     match k {
         20 => all_kinds(m),
-        21 | 23 => rows(4, k, r, m),
-        22 => rows(2, k, r, m),
-        24 => rows(1, k, r, m),
-        _ => map_point(m, record::float_at(r, 7), record::float_at(r, 8)),
+        21 => rows(0, 4, m, b, record::float_at(r, 1), record::float_at(r, 2)),
+        22 => rows(4, 6, m, b, x, y),
+        23 => rows(6, 10, m, b, x, y),
+        24 => rows(10, 11, m, b, x, y),
+        _ => map_point(m, x, y),
     }
 }
 
 // What the calls of number k give.
 pub fn called(k: u32, r: &[u8; 80]) -> Sum {
     let m = record::first(r);
-    on_matrix(k, r, &m)
+    let b = record::second(r);
+    on_matrices(k, r, &m, &b)
 }

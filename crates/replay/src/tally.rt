@@ -24,11 +24,15 @@ pub enum Step {
 
 fn on_points(k: u32, r: &[u8; 80], src: &[f32]) -> Sum {
     match k {
-        8 | 9 | 10 | 11 | 14 => of_shapes::called(k, src, record::float_at(r, 9)),
-        15 | 16 | 19 => {
-            of_conics::called(k, src, record::float_at(r, 7), record::float_at(r, 8))
-        }
-        _ => of_buffers::called(k, r, src),
+        7 => of_roots::find_cubic_inflections(src),
+        8..=11 => of_shapes::evaluated(k, r, src),
+        12 | 13 => of_buffers::chopped(k, r, src),
+        14 => of_shapes::curvature(src),
+        15 => of_conics::chop(r, src),
+        16 => of_conics::compute_quad_pow2(r, src),
+        17 | 18 => of_buffers::quads(k, r, src),
+        19 => of_conics::auto_conic_to_quads(r, src),
+        _ => of_buffers::mapped(k, r, src),
     }
 }
 
@@ -41,9 +45,9 @@ fn with_points(k: u32, r: &[u8; 80]) -> Sum {
 fn replayed(k: u32, r: &[u8; 80]) -> Sum {
     match k {
         0..=2 => of_ground::called(k, r),
-        3..=7 => of_roots::called(k, r),
+        3..=6 => of_roots::called(k, r),
         20..=25 => of_transforms::called(k, r),
-        8..=19 | 26 => with_points(k, r),
+        7..=19 | 26 => with_points(k, r),
         _ => sum::START,
     }
 }

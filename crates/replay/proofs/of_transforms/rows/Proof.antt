@@ -1,17 +1,17 @@
--- `replay::of_transforms::rows` is safe and ends: the calls that are left fall. Assumes nothing.
-use Prim.Native.Nat.{_-_, _≤_}
+-- `replay::of_transforms::rows` is safe and ends: the calls that are left fall. Nothing has to hold from turn to turn. Assumes nothing.
+use Prim.Native.Nat.{_-_}
 use native.Mathlib.Omega.{arith}
 use Rattle.replay.proofs.of_transforms.rows.Statement.{statement}
 use Rattle.replay.proofs.of_transforms.rows.Tie as tie
 
 abbrev Inv-loop : tie.InvT-loop
-Inv-loop n k r m s₀ j₀ s j = j ≤ n
+Inv-loop from to m b x y s₀ j₀ s j = Unit {0}
 
 abbrev μ-loop : tie.MeasureT-loop
-μ-loop n k r m s₀ j₀ s j = n - j
+μ-loop from to m b x y s₀ j₀ s j = to - j
 
 loop-holds : tie.Need-loop-holds Inv-loop μ-loop
-loop-holds c = omega arith
+loop-holds c = tt
 
 row-requires : tie.Need-row-requires Inv-loop μ-loop
 row-requires c κs = tt
@@ -23,7 +23,7 @@ loop-less : tie.Need-loop-less Inv-loop μ-loop
 loop-less c = omega arith
 
 loop-again : tie.Need-loop-again Inv-loop μ-loop
-loop-again c = omega arith
+loop-again c = tt
 
 returns : tie.Need-returns Inv-loop μ-loop
 returns c = tt
