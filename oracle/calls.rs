@@ -452,14 +452,14 @@ pub const CALLS: &[Call] = &[
         o.number(unsafe { nz_conic_chop(c.f.as_ptr(), c.len[0], c.f[6], &mut h) });
         o.computed(&h);
     }, theirs: halves },
-    Call { name: "conic_compute_quad_pow2", share: 5, listed: 5500, make: conic, ours: |c, o| {
+    Call { name: "conic_compute_quad_pow2", share: 5, listed: 7000, make: conic, ours: |c, o| {
         let mut n = 77;
         o.number(unsafe { nz_conic_compute_quad_pow2(c.f.as_ptr(), c.len[0], c.f[6], c.f[7], &mut n) });
         o.number(n);
     }, theirs: level },
-    Call { name: "conic_chop_into_quads_pow2", share: 8, listed: 5500, make: conic, ours: |c, o| cut(c, o, nz_conic_chop_into_quads_pow2), theirs: by_product },
-    Call { name: "cut_in_order", share: 8, listed: 5500, make: conic, ours: |c, o| cut(c, o, nz_cut_in_order), theirs: by_exact },
-    Call { name: "auto_conic_to_quads", share: 4, listed: 5500, make: conic, ours: |c, o| {
+    Call { name: "conic_chop_into_quads_pow2", share: 8, listed: 8500, make: conic, ours: |c, o| cut(c, o, nz_conic_chop_into_quads_pow2), theirs: by_product },
+    Call { name: "cut_in_order", share: 8, listed: 8500, make: conic, ours: |c, o| cut(c, o, nz_cut_in_order), theirs: by_exact },
+    Call { name: "auto_conic_to_quads", share: 4, listed: 6500, make: conic, ours: |c, o| {
         let (mut p, mut n) = (buffer::<128>(), 77);
         o.number(unsafe { nz_auto_conic_to_quads(c.f.as_ptr(), c.len[0], c.f[6], &mut p, &mut n) });
         o.number(n as u32);
@@ -520,5 +520,5 @@ pub const CALLS: &[Call] = &[
         o.number(0);
         if t.is_identity() { o.copied(&numbers(p)) } else { o.computed(&numbers(p)) }
     } },
-    Call { name: "transform: map_numbers", share: 5, listed: 5500, make: matrices, ours: mapped, theirs: their_mapped },
+    Call { name: "transform: map_numbers", share: 5, listed: 9000, make: matrices, ours: mapped, theirs: their_mapped },
 ];

@@ -28,7 +28,7 @@ fn tests(a: f32, b: f32, c: f32) -> Sum {
 pub fn called(k: u32, r: &[u8; 80]) -> Sum {
     match k {
         0 => of_float(record::float_at(r, 1)),
-        1 => of_double(record::double_at(r)),
+        1 => of_double(record::from_pair(record::pair_at(r, 13))),
         _ => tests(
             record::float_at(r, 1),
             record::float_at(r, 2),

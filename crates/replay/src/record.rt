@@ -35,16 +35,12 @@ fn from_word(b: u32) -> f32 {
     f32::from_bits(b)
 }
 
-fn from_pair(b: u64) -> f64 {
+// The double of a pattern, every NaN as one.
+pub fn from_pair(b: u64) -> f64 {
     if b % 0x8000_0000_0000_0000 > 0x7ff0_0000_0000_0000 {
         return 0.0 / 0.0;
     }
     f64::from_bits(b)
-}
-
-// The double of a record.
-pub fn double_at(r: &[u8; 80]) -> f64 {
-    from_pair(pair_at(r, 13))
 }
 
 // Word k of a record as a float.

@@ -52,17 +52,13 @@ fn replayed(k: u32, r: &[u8; 80]) -> Sum {
     }
 }
 
-fn text(t: &[u8]) {
-    io::write_all(STDOUT_FILENO, t);
-}
-
 // Writes the rest of the line of a call, after its name.
 fn line(t: Tally) {
-    text(b" ");
+    io::write_all(STDOUT_FILENO, b" ");
     io::print_decimal(STDOUT_FILENO, t.same);
-    text(b" of ");
+    io::write_all(STDOUT_FILENO, b" of ");
     io::print_decimal(STDOUT_FILENO, t.all);
-    text(b"\n");
+    io::write_all(STDOUT_FILENO, b"\n");
 }
 
 // Writes the name of a call: the bytes of a record from its second word up to an end.
@@ -73,7 +69,7 @@ fn title(r: &[u8], end: usize) {
     if end > r.len() {
         return;
     }
-    text(&r[4..end]);
+    io::write_all(STDOUT_FILENO, &r[4..end]);
 }
 
 // The tally with one record more.
