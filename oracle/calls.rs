@@ -19,6 +19,7 @@ pub struct Case {
 pub struct Call {
     pub name: &'static str,
     pub share: usize,
+    pub listed: usize,
     pub make: fn(&mut Inputs, &mut Case),
     pub ours: fn(&Case, &mut Output),
     pub theirs: fn(&Case, &mut Output),
@@ -368,7 +369,7 @@ fn their_mapped(c: &Case, out: &mut Output) {
 }
 
 pub const CALLS: &[Call] = &[
-    Call { name: "is_finite_f32, abs_f32, widen, sqrt_f32", share: 4, make: values, ours: |c, o| unsafe {
+    Call { name: "is_finite_f32, abs_f32, widen, sqrt_f32", share: 4, listed: 1500, make: values, ours: |c, o| unsafe {
         o.flag(nz_is_finite_f32(c.f[0]));
         o.computed(&[nz_abs_f32(c.f[0])]);
         o.double(nz_widen(c.f[0]));
@@ -379,7 +380,7 @@ pub const CALLS: &[Call] = &[
         o.double(c.f[0] as f64);
         o.computed(&[c.f[0].sqrt()]);
     } },
-    Call { name: "is_finite_f64, narrow, sqrt_f64", share: 4, make: one_double, ours: |c, o| unsafe {
+    Call { name: "is_finite_f64, narrow, sqrt_f64", share: 4, listed: 1500, make: one_double, ours: |c, o| unsafe {
         o.flag(nz_is_finite_f64(c.x));
         o.computed(&[nz_narrow(c.x)]);
         o.double(nz_sqrt_f64(c.x));
@@ -388,7 +389,7 @@ pub const CALLS: &[Call] = &[
         o.computed(&[c.x as f32]);
         o.double(c.x.sqrt());
     } },
-    Call { name: "point_is_finite, between_product, between_exact", share: 4, make: values, ours: |c, o| unsafe {
+    Call { name: "point_is_finite, between_product, between_exact", share: 4, listed: 1500, make: values, ours: |c, o| unsafe {
         o.flag(nz_point_is_finite(c.f[0], c.f[1]));
         o.flag(nz_between_product(c.f[0], c.f[1], c.f[2]));
         o.flag(nz_between_exact(c.f[0], c.f[1], c.f[2]));
@@ -397,27 +398,27 @@ pub const CALLS: &[Call] = &[
         o.flag(pg::between(c.f[0], c.f[1], c.f[2]));
         o.flag(exact::path_geometry::between(c.f[0], c.f[1], c.f[2]));
     } },
-    Call { name: "valid_unit_divide", share: 4, make: values,
+    Call { name: "valid_unit_divide", share: 4, listed: 1500, make: values,
         ours: |c, o| root(c, o, |c, r, n| unsafe { nz_valid_unit_divide(c.f[0], c.f[1], r, n) }),
         theirs: |c, o| found_one(o, pg::valid_unit_divide(c.f[0], c.f[1])) },
-    Call { name: "find_unit_quad_roots", share: 6, make: values,
+    Call { name: "find_unit_quad_roots", share: 6, listed: 1500, make: values,
         ours: |c, o| roots(c, o, |c, r, n| unsafe { nz_find_unit_quad_roots(c.f[0], c.f[1], c.f[2], r, n) }),
         theirs: |c, o| {
             let mut ts = pg::new_t_values();
             let n = pg::find_unit_quad_roots(c.f[0], c.f[1], c.f[2], &mut ts);
             found(o, &ts[..n], 2);
         } },
-    Call { name: "find_quad_extrema", share: 3, make: values,
+    Call { name: "find_quad_extrema", share: 3, listed: 1500, make: values,
         ours: |c, o| root(c, o, |c, r, n| unsafe { nz_find_quad_extrema(c.f[0], c.f[1], c.f[2], r, n) }),
         theirs: |c, o| found_one(o, pg::find_quad_extrema(c.f[0], c.f[1], c.f[2])) },
-    Call { name: "find_cubic_extrema", share: 4, make: values,
+    Call { name: "find_cubic_extrema", share: 4, listed: 1500, make: values,
         ours: |c, o| roots(c, o, |c, r, n| unsafe { nz_find_cubic_extrema(c.f[0], c.f[1], c.f[2], c.f[3], r, n) }),
         theirs: |c, o| {
             let mut ts = pg::new_t_values();
             let n = pg::find_cubic_extrema(c.f[0], c.f[1], c.f[2], c.f[3], &mut ts);
             found(o, &ts[..n], 2);
         } },
-    Call { name: "find_cubic_inflections", share: 4, make: cubic,
+    Call { name: "find_cubic_inflections", share: 4, listed: 1500, make: cubic,
         ours: |c, o| roots(c, o, |c, r, n| unsafe { nz_find_cubic_inflections(c.f.as_ptr(), c.len[0], r, n) }),
         theirs: |c, o| {
             if c.len[0] < 8 {
@@ -429,43 +430,43 @@ pub const CALLS: &[Call] = &[
             let ts = pg::find_cubic_inflections(&points(&c.f), &mut ts);
             found(o, ts, 2);
         } },
-    Call { name: "eval_quad_at", share: 4, make: quad, ours: |c, o| evaluated(c, o, nz_eval_quad_at),
+    Call { name: "eval_quad_at", share: 4, listed: 1500, make: quad, ours: |c, o| evaluated(c, o, nz_eval_quad_at),
         theirs: |c, o| evaluation(c, o, 6, |t| pg::eval_quad_at(&points(&c.f), t)) },
-    Call { name: "eval_quad_tangent_at", share: 4, make: quad, ours: |c, o| evaluated(c, o, nz_eval_quad_tangent_at),
+    Call { name: "eval_quad_tangent_at", share: 4, listed: 1500, make: quad, ours: |c, o| evaluated(c, o, nz_eval_quad_tangent_at),
         theirs: |c, o| evaluation(c, o, 6, |t| pg::eval_quad_tangent_at(&points(&c.f), t)) },
-    Call { name: "eval_cubic_pos_at", share: 4, make: cubic, ours: |c, o| evaluated(c, o, nz_eval_cubic_pos_at),
+    Call { name: "eval_cubic_pos_at", share: 4, listed: 1500, make: cubic, ours: |c, o| evaluated(c, o, nz_eval_cubic_pos_at),
         theirs: |c, o| evaluation(c, o, 8, |t| pg::eval_cubic_pos_at(&points(&c.f), t)) },
-    Call { name: "eval_cubic_tangent_at", share: 4, make: cubic, ours: |c, o| evaluated(c, o, nz_eval_cubic_tangent_at),
+    Call { name: "eval_cubic_tangent_at", share: 4, listed: 1500, make: cubic, ours: |c, o| evaluated(c, o, nz_eval_cubic_tangent_at),
         theirs: |c, o| evaluation(c, o, 8, |t| pg::eval_cubic_tangent_at(&points(&c.f), t)) },
-    Call { name: "chop_quad_at", share: 4, make: quad, ours: |c, o| chopped(c, o, nz_chop_quad_at),
+    Call { name: "chop_quad_at", share: 4, listed: 1500, make: quad, ours: |c, o| chopped(c, o, nz_chop_quad_at),
         theirs: |c, o| chop::<5>(c, o, 6, |t, dst| pg::chop_quad_at(&points::<3>(&c.f), t, dst)) },
-    Call { name: "chop_cubic_at2", share: 4, make: cubic, ours: |c, o| chopped(c, o, nz_chop_cubic_at2),
+    Call { name: "chop_cubic_at2", share: 4, listed: 1500, make: cubic, ours: |c, o| chopped(c, o, nz_chop_cubic_at2),
         theirs: |c, o| chop::<7>(c, o, 8, |t, dst| pg::chop_cubic_at2(&points::<4>(&c.f), t, dst)) },
-    Call { name: "find_quad_max_curvature", share: 2, make: quad, ours: |c, o| {
+    Call { name: "find_quad_max_curvature", share: 2, listed: 1500, make: quad, ours: |c, o| {
         let mut t = buffer::<1>();
         o.number(unsafe { nz_find_quad_max_curvature(c.f.as_ptr(), c.len[0], &mut t[0]) });
         o.computed(&t);
     }, theirs: curvature },
-    Call { name: "conic_chop", share: 4, make: conic, ours: |c, o| {
+    Call { name: "conic_chop", share: 4, listed: 1500, make: conic, ours: |c, o| {
         let mut h = buffer::<14>();
         o.number(unsafe { nz_conic_chop(c.f.as_ptr(), c.len[0], c.f[6], &mut h) });
         o.computed(&h);
     }, theirs: halves },
-    Call { name: "conic_compute_quad_pow2", share: 5, make: conic, ours: |c, o| {
+    Call { name: "conic_compute_quad_pow2", share: 5, listed: 7000, make: conic, ours: |c, o| {
         let mut n = 77;
         o.number(unsafe { nz_conic_compute_quad_pow2(c.f.as_ptr(), c.len[0], c.f[6], c.f[7], &mut n) });
         o.number(n);
     }, theirs: level },
-    Call { name: "conic_chop_into_quads_pow2", share: 8, make: conic, ours: |c, o| cut(c, o, nz_conic_chop_into_quads_pow2), theirs: by_product },
-    Call { name: "cut_in_order", share: 8, make: conic, ours: |c, o| cut(c, o, nz_cut_in_order), theirs: by_exact },
-    Call { name: "auto_conic_to_quads", share: 4, make: conic, ours: |c, o| {
+    Call { name: "conic_chop_into_quads_pow2", share: 8, listed: 8500, make: conic, ours: |c, o| cut(c, o, nz_conic_chop_into_quads_pow2), theirs: by_product },
+    Call { name: "cut_in_order", share: 8, listed: 8500, make: conic, ours: |c, o| cut(c, o, nz_cut_in_order), theirs: by_exact },
+    Call { name: "auto_conic_to_quads", share: 4, listed: 6500, make: conic, ours: |c, o| {
         let (mut p, mut n) = (buffer::<128>(), 77);
         o.number(unsafe { nz_auto_conic_to_quads(c.f.as_ptr(), c.len[0], c.f[6], &mut p, &mut n) });
         o.number(n as u32);
         o.computed(&p);
     }, theirs: automatic },
-    Call { name: "transform: the ten kinds and get_scale", share: 4, make: matrices, ours: kinds, theirs: their_kinds },
-    Call { name: "transform: identity, from_translate, from_scale, from_skew", share: 1, make: values, ours: |c, o| unsafe {
+    Call { name: "transform: the ten kinds and get_scale", share: 4, listed: 5500, make: matrices, ours: kinds, theirs: their_kinds },
+    Call { name: "transform: identity, from_translate, from_scale, from_skew", share: 1, listed: 1500, make: values, ours: |c, o| unsafe {
         given(o, |m| nz_transform_identity(m));
         given(o, |m| nz_transform_from_translate(c.f[0], c.f[1], m));
         given(o, |m| nz_transform_from_scale(c.f[0], c.f[1], m));
@@ -476,7 +477,7 @@ pub const CALLS: &[Call] = &[
         row(o, Transform::from_scale(c.f[0], c.f[1]), true);
         row(o, Transform::from_skew(c.f[0], c.f[1]), true);
     } },
-    Call { name: "transform: pre_concat and post_concat", share: 5, make: matrices, ours: |c, o| unsafe {
+    Call { name: "transform: pre_concat and post_concat", share: 5, listed: 5500, make: matrices, ours: |c, o| unsafe {
         given(o, |m| nz_transform_pre_concat(first(c), second(c), m));
         given(o, |m| nz_transform_post_concat(first(c), second(c), m));
     }, theirs: |c, o| {
@@ -485,7 +486,7 @@ pub const CALLS: &[Call] = &[
         row(o, a.pre_concat(b), copied);
         row(o, a.post_concat(b), copied);
     } },
-    Call { name: "transform: pre_scale, post_scale, pre_translate, post_translate", share: 4, make: matrices, ours: |c, o| unsafe {
+    Call { name: "transform: pre_scale, post_scale, pre_translate, post_translate", share: 4, listed: 1500, make: matrices, ours: |c, o| unsafe {
         let (x, y) = (c.f[6], c.f[7]);
         given(o, |m| nz_transform_pre_scale(first(c), x, y, m));
         given(o, |m| nz_transform_post_scale(first(c), x, y, m));
@@ -499,7 +500,7 @@ pub const CALLS: &[Call] = &[
         row(o, t.pre_translate(x, y), t.is_identity() || translate);
         row(o, t.post_translate(x, y), t.is_identity() || translate);
     } },
-    Call { name: "transform: invert", share: 5, make: matrices, ours: |c, o| given(o, |m| unsafe { nz_transform_invert(first(c), m) }), theirs: |c, o| {
+    Call { name: "transform: invert", share: 5, listed: 5500, make: matrices, ours: |c, o| given(o, |m| unsafe { nz_transform_invert(first(c), m) }), theirs: |c, o| {
         let t = matrix(&c.f);
         match t.invert() {
             Some(r) => row(o, r, t.is_identity()),
@@ -509,7 +510,7 @@ pub const CALLS: &[Call] = &[
             }
         }
     } },
-    Call { name: "transform: map_point", share: 4, make: matrices, ours: |c, o| {
+    Call { name: "transform: map_point", share: 4, listed: 1500, make: matrices, ours: |c, o| {
         let mut p = [c.f[6], c.f[7]];
         o.number(unsafe { nz_transform_map_point(first(c), &mut p) });
         o.computed(&p);
@@ -519,5 +520,5 @@ pub const CALLS: &[Call] = &[
         o.number(0);
         if t.is_identity() { o.copied(&numbers(p)) } else { o.computed(&numbers(p)) }
     } },
-    Call { name: "transform: map_numbers", share: 5, make: matrices, ours: mapped, theirs: their_mapped },
+    Call { name: "transform: map_numbers", share: 5, listed: 9000, make: matrices, ours: mapped, theirs: their_mapped },
 ];

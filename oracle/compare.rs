@@ -1,7 +1,9 @@
 // Every exported call beside the original, in one process, on inputs from a seed. See calls.rs for what is compared
 // and outputs.rs for what counts as the same.
+#[allow(dead_code)] // some of it is for the list alone
 mod calls;
 mod inputs;
+#[allow(dead_code)]
 mod outputs;
 
 use calls::{Call, Case, CALLS};

@@ -2,8 +2,9 @@
 
 #[derive(Clone, Copy, PartialEq)]
 enum Kind {
-    Bits,  // copied, or not a float: the same bits
-    Float, // computed: any NaN is any NaN
+    Bits,     // no float: the same bits
+    Copied,   // a float that was copied: the same bits
+    Computed, // any NaN is any NaN
 }
 
 pub struct Output {
@@ -52,13 +53,13 @@ impl Output {
 
     pub fn computed(&mut self, xs: &[f32]) {
         for x in xs {
-            self.push(x.to_bits(), Kind::Float);
+            self.push(x.to_bits(), Kind::Computed);
         }
     }
 
     pub fn copied(&mut self, xs: &[f32]) {
         for x in xs {
-            self.push(x.to_bits(), Kind::Bits);
+            self.push(x.to_bits(), Kind::Copied);
         }
     }
 
@@ -75,6 +76,14 @@ impl Output {
         }
     }
 
+    // The words as the list has them: every NaN as one, since Rattle does not tell them apart.
+    pub fn words(&self) -> impl Iterator<Item = u32> + '_ {
+        (0..self.len).map(|k| match self.kinds[k] {
+            Kind::Copied | Kind::Computed if f32::from_bits(self.words[k]).is_nan() => 0x7fc0_0000,
+            _ => self.words[k],
+        })
+    }
+
     // `self` is the library's; the judge says which words are computed.
     pub fn against(&self, judge: &Output) -> Verdict {
         let mut verdict = Verdict::Same;
@@ -88,8 +97,8 @@ impl Output {
             }
             let (x, y) = (f32::from_bits(a), f32::from_bits(b));
             match judge.kinds[k] {
-                Kind::Float if x.is_nan() && y.is_nan() => {}
-                Kind::Float if x == 0.0 && y == 0.0 => verdict = Verdict::ZeroSign,
+                Kind::Computed if x.is_nan() && y.is_nan() => {}
+                Kind::Computed if x == 0.0 && y == 0.0 => verdict = Verdict::ZeroSign,
                 _ => return Verdict::Different,
             }
         }

@@ -1,95 +1,116 @@
-// The transforms' calls. A matrix is six words, in the order of `from_row`.
+// The transforms' calls. A matrix is six numbers, in the order of `from_row`.
 use super::record;
-use super::record::Sum;
-use mapping::Mapping;
-use transform::Inversion;
-use transform::Transform;
+use super::sum;
+use super::sum::Sum;
+use nyerdzumak::kinds;
+use nyerdzumak::transforms;
 
-fn row_at(r: &[u8; 64], k: usize) -> Transform {
-    if k > 10 {
-        return Transform::IDENTITY;
+fn three_kinds(s: Sum, m: &[f32; 6]) -> Sum {
+    let a = sum::flag(s, kinds::nz_transform_is_finite(m));
+    let b = sum::flag(a, kinds::nz_transform_is_valid(m));
+    sum::flag(b, kinds::nz_transform_is_identity(m))
+}
+
+fn pure_kinds(s: Sum, m: &[f32; 6]) -> Sum {
+    let a = sum::flag(s, kinds::nz_transform_is_scale(m));
+    let b = sum::flag(a, kinds::nz_transform_is_skew(m));
+    let c = sum::flag(b, kinds::nz_transform_is_translate(m));
+    sum::flag(c, kinds::nz_transform_is_scale_translate(m))
+}
+
+fn has_kinds(s: Sum, m: &[f32; 6]) -> Sum {
+    let a = sum::flag(s, kinds::nz_transform_has_scale(m));
+    let b = sum::flag(a, kinds::nz_transform_has_skew(m));
+    sum::flag(b, kinds::nz_transform_has_translate(m))
+}
+
+fn all_kinds(m: &[f32; 6]) -> Sum {
+    let s = has_kinds(pure_kinds(three_kinds(sum::START, m), m), m);
+    let mut scale = [7000.0f32, 7001.0];
+    let number = kinds::nz_transform_get_scale(m, &mut scale);
+    sum::two(s, number, &scale)
+}
+
+// Call j of those that give a matrix.
+fn matrix(j: u32, m: &[f32; 6], b: &[f32; 6], x: f32, y: f32, out: &mut [f32; 6]) -> u32 {
+    match j {
+        0 => transforms::nz_transform_identity(out),
+        1 => transforms::nz_transform_from_translate(x, y, out),
+        2 => transforms::nz_transform_from_scale(x, y, out),
+        3 => transforms::nz_transform_from_skew(x, y, out),
+        4 => transforms::nz_transform_pre_concat(m, b, out),
+        5 => transforms::nz_transform_post_concat(m, b, out),
+        6 => transforms::nz_transform_pre_scale(m, x, y, out),
+        7 => transforms::nz_transform_post_scale(m, x, y, out),
+        8 => transforms::nz_transform_pre_translate(m, x, y, out),
+        9 => transforms::nz_transform_post_translate(m, x, y, out),
+        _ => transforms::nz_transform_invert(m, out),
     }
-    Transform::from_row(
-        record::float_at(r, k),
-        record::float_at(r, k + 1),
-        record::float_at(r, k + 2),
-        record::float_at(r, k + 3),
-        record::float_at(r, k + 4),
-        record::float_at(r, k + 5),
-    )
 }
 
-fn row(s: Sum, t: Transform) -> Sum {
-    let a = record::float(record::float(record::float(s, t.sx), t.ky), t.kx);
-    record::float(record::float(record::float(a, t.sy), t.tx), t.ty)
+fn row(s: Sum, j: u32, m: &[f32; 6], b: &[f32; 6], x: f32, y: f32) -> Sum {
+    let mut out = [7000.0f32, 7001.0, 7002.0, 7003.0, 7004.0, 7005.0];
+    let number = matrix(j, m, b, x, y, &mut out);
+    sum::six(s, number, &out)
 }
 
-pub fn kinds(r: &[u8; 64]) -> Sum {
-    let t = row_at(r, 1);
-    let a = record::flag(record::flag(record::start(), t.is_finite()), t.is_valid());
-    let b = record::flag(record::flag(a, t.is_identity()), t.is_scale());
-    let c = record::flag(record::flag(b, t.is_skew()), t.is_translate());
-    let d = record::flag(record::flag(c, t.is_scale_translate()), t.has_scale());
-    let e = record::flag(record::flag(d, t.has_skew()), t.has_translate());
-    let scale = t.get_scale();
-    record::float(record::float(e, scale.x), scale.y)
+// What the calls from one on and before another give.
+fn rows(from: u32, to: u32, m: &[f32; 6], b: &[f32; 6], x: f32, y: f32) -> Sum {
+    let mut s = sum::START;
+    let mut j = from;
+    while j < to {
+        s = row(s, j, m, b, x, y);
+        j += 1;
+    }
+    s
 }
 
-pub fn concat(r: &[u8; 64]) -> Sum {
-    let a = row_at(r, 1);
-    let b = row_at(r, 7);
-    row(row(record::start(), a.pre_concat(b)), a.post_concat(b))
+fn map_point(m: &[f32; 6], x: f32, y: f32) -> Sum {
+    let mut point = [x, y];
+    let number = transforms::nz_transform_map_point(m, &mut point);
+    sum::two(sum::START, number, &point)
 }
 
-pub fn scaled(r: &[u8; 64]) -> Sum {
-    let t = row_at(r, 1);
+// Maps the numbers where they stand, and answers the call's number.
+pub fn map_numbers(r: &[u8; 80], numbers: &mut [f32]) -> u32 {
+    let m = record::first(r);
+    transforms::nz_transform_map_numbers(&m, numbers)
+}
+
+fn place(k: usize, n: usize, x: f32, stood: f32) -> f32 {
+    if k < n { x } else { stood }
+}
+
+// Eight places, the first n of which hold the last numbers of a record, and the others what stood there.
+pub fn eight(r: &[u8; 80], n: usize) -> [f32; 8] {
+    [
+        place(0, n, record::float_at(r, 7), 7000.0),
+        place(1, n, record::float_at(r, 8), 7001.0),
+        place(2, n, record::float_at(r, 9), 7002.0),
+        place(3, n, record::float_at(r, 10), 7003.0),
+        place(4, n, record::float_at(r, 11), 7004.0),
+        place(5, n, record::float_at(r, 12), 7005.0),
+        7006.0,
+        7007.0,
+    ]
+}
+
+fn on_matrices(k: u32, r: &[u8; 80], m: &[f32; 6], b: &[f32; 6]) -> Sum {
     let x = record::float_at(r, 7);
     let y = record::float_at(r, 8);
-    let s = row(row(record::start(), t.pre_scale(x, y)), t.post_scale(x, y));
-    row(row(s, t.pre_translate(x, y)), t.post_translate(x, y))
-}
-
-pub fn invert(r: &[u8; 64]) -> Sum {
-    match row_at(r, 1).invert() {
-        Inversion::Inverted(t) => row(record::word(record::start(), 0), t),
-        Inversion::NearlySingular => record::word(record::start(), 6),
-        Inversion::NotFinite => record::word(record::start(), 7),
-    }
-}
-
-pub fn map_point(r: &[u8; 64]) -> Sum {
-    record::point(
-        record::start(),
-        row_at(r, 1).map_point(record::point_at(r, 7)),
-    )
-}
-
-// Three points.
-pub fn map_numbers(r: &[u8; 64]) -> Sum {
-    let mut points = [
-        record::float_at(r, 7),
-        record::float_at(r, 8),
-        record::float_at(r, 9),
-        record::float_at(r, 10),
-        record::float_at(r, 11),
-        record::float_at(r, 12),
-    ];
-    let number = match mapping::map_numbers(row_at(r, 1), &mut points) {
-        Mapping::Mapped => 0,
-        Mapping::OddLength => 9,
-    };
-    record::floats(record::word(record::start(), number), &points)
-}
-
-// Writes the name of the call of number k.
-pub fn name(k: u32) {
     match k {
-        24 => record::text(b"kinds"),
-        25 => record::text(b"concat"),
-        26 => record::text(b"scaled"),
-        27 => record::text(b"invert"),
-        28 => record::text(b"map_point"),
-        29 => record::text(b"map_numbers"),
-        _ => record::text(b"unknown"),
+        20 => all_kinds(m),
+        21 => rows(0, 4, m, b, record::float_at(r, 1), record::float_at(r, 2)),
+        22 => rows(4, 6, m, b, x, y),
+        23 => rows(6, 10, m, b, x, y),
+        24 => rows(10, 11, m, b, x, y),
+        _ => map_point(m, x, y),
     }
+}
+
+// What the calls of number k give.
+pub fn called(k: u32, r: &[u8; 80]) -> Sum {
+    let m = record::first(r);
+    let b = record::second(r);
+    on_matrices(k, r, &m, &b)
 }

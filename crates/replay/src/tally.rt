@@ -1,16 +1,18 @@
 // The list, read record by record from standard input and counted call by call.
+use super::of_buffers;
 use super::of_conics;
-use super::of_curves;
 use super::of_ground;
+use super::of_roots;
+use super::of_shapes;
 use super::of_transforms;
 use super::record;
-use super::record::Sum;
+use super::sum;
+use super::sum::Sum;
 use libc::STDIN_FILENO;
 use libc::STDOUT_FILENO;
 
 // Of the call at hand: how many records there were, and in how many the answer was the original's.
 pub struct Tally {
-    pub call: u32,
     pub all: u64,
     pub same: u64,
 }
@@ -20,110 +22,92 @@ pub enum Step {
     End(Tally),
 }
 
-// What the call of number k gives on the record's input.
-fn replayed(k: u32, r: &[u8; 64]) -> Sum {
+fn on_points(k: u32, r: &[u8; 80], src: &[f32]) -> Sum {
     match k {
-        0 => of_ground::is_finite_f32(r),
-        1 => of_ground::is_finite_f64(r),
-        2 => of_ground::abs_f32(r),
-        3 => of_ground::widen(r),
-        4 => of_ground::narrow(r),
-        5 => of_ground::sqrt_f32(r),
-        6 => of_ground::sqrt_f64(r),
-        7 => of_curves::valid_unit_divide(r),
-        8 => of_curves::find_unit_quad_roots(r),
-        9 => of_curves::eval_quad_at(r),
-        10 => of_curves::eval_quad_tangent_at(r),
-        11 => of_curves::chop_quad_at(r),
-        12 => of_curves::find_quad_extrema(r),
-        13 => of_curves::find_quad_max_curvature(r),
-        14 => of_curves::eval_cubic_pos_at(r),
-        15 => of_curves::eval_cubic_tangent_at(r),
-        16 => of_curves::chop_cubic_at2(r),
-        17 => of_curves::find_cubic_extrema(r),
-        18 => of_curves::find_cubic_inflections(r),
-        19 => of_conics::between_product(r),
-        20 => of_conics::chop(r),
-        21 => of_conics::compute_quad_pow2(r),
-        22 => of_conics::chop_into_quads_pow2(r),
-        23 => of_conics::auto_conic_to_quads(r),
-        24 => of_transforms::kinds(r),
-        25 => of_transforms::concat(r),
-        26 => of_transforms::scaled(r),
-        27 => of_transforms::invert(r),
-        28 => of_transforms::map_point(r),
-        29 => of_transforms::map_numbers(r),
-        _ => record::start(),
+        7 => of_roots::find_cubic_inflections(src),
+        8..=11 => of_shapes::evaluated(k, r, src),
+        12 | 13 => of_buffers::chopped(k, r, src),
+        14 => of_shapes::curvature(src),
+        15 => of_conics::chop(r, src),
+        16 => of_conics::compute_quad_pow2(r, src),
+        17 | 18 => of_buffers::quads(k, r, src),
+        19 => of_conics::auto_conic_to_quads(r, src),
+        _ => of_buffers::mapped(k, r, src),
     }
 }
 
-// Writes the name of the call of number k.
-fn name(k: u32) {
-    if k < 7 {
-        of_ground::name(k);
-    } else if k < 19 {
-        of_curves::name(k);
-    } else if k < 24 {
-        of_conics::name(k);
-    } else {
-        of_transforms::name(k);
+fn with_points(k: u32, r: &[u8; 80]) -> Sum {
+    let f = record::floats(r);
+    on_points(k, r, record::front(&f, record::length_at(r, 15)))
+}
+
+// What the calls of number k give on the record's input.
+fn replayed(k: u32, r: &[u8; 80]) -> Sum {
+    match k {
+        0..=2 => of_ground::called(k, r),
+        3..=6 => of_roots::called(k, r),
+        20..=25 => of_transforms::called(k, r),
+        7..=19 | 26 => with_points(k, r),
+        _ => sum::START,
     }
 }
 
-// Writes the line of a call.
+// Writes the rest of the line of a call, after its name.
 fn line(t: Tally) {
-    name(t.call);
-    record::text(b" ");
+    io::write_all(STDOUT_FILENO, b" ");
     io::print_decimal(STDOUT_FILENO, t.same);
-    record::text(b" of ");
+    io::write_all(STDOUT_FILENO, b" of ");
     io::print_decimal(STDOUT_FILENO, t.all);
-    record::text(b"\n");
+    io::write_all(STDOUT_FILENO, b"\n");
+}
+
+// Writes the name of a call: the bytes of a record from its second word up to an end.
+fn title(r: &[u8], end: usize) {
+    if end < 4 {
+        return;
+    }
+    if end > r.len() {
+        return;
+    }
+    io::write_all(STDOUT_FILENO, &r[4..end]);
 }
 
 // The tally with one record more.
-fn counted(t: Tally, r: &[u8; 64]) -> Tally {
-    let s = replayed(t.call, r);
+fn counted(t: Tally, r: &[u8; 80]) -> Tally {
     let mut same = t.same;
-    if (s.a == record::word_at(r, 14)) & (s.b == record::word_at(r, 15)) {
+    if replayed(record::word_at(r, 0), r) == record::pair_at(r, 18) {
         same = std::num::wrapping_add_u64(same, 1);
     }
     Tally {
-        call: t.call,
         all: std::num::wrapping_add_u64(t.all, 1),
         same,
     }
 }
 
-// The tally where a record of the call k comes next: where that is another call, the line of the one at
-// hand is written.
-fn turned(t: Tally, k: u32) -> Tally {
-    if t.call == k {
-        return t;
+// The tally where a record names the call of those that follow: the line of the one at hand is ended.
+fn turned(t: Tally, r: &[u8; 80]) -> Tally {
+    if t.all > 0 {
+        line(t);
     }
-    line(t);
-    Tally {
-        call: k,
-        all: 0,
-        same: 0,
-    }
+    title(r, record::length_at(r, 19));
+    Tally { all: 0, same: 0 }
 }
 
 fn taken(t: Tally) -> Step {
-    let mut r = [0u8; 64];
-    if io::read_full(STDIN_FILENO, &mut r) < 64 {
+    let mut r = [0u8; 80];
+    if io::read_full(STDIN_FILENO, &mut r) < 80 {
         return Step::End(t);
     }
-    Step::More(counted(turned(t, record::word_at(&r, 0)), &r))
+    if record::word_at(&r, 0) == 0xffff_ffff {
+        return Step::More(turned(t, &r));
+    }
+    Step::More(counted(t, &r))
 }
 
 // A proved loop has to end, and nothing says that the input does: it counts its turns down from a number
 // that no list uses up.
 pub fn run() {
-    let mut t = Tally {
-        call: 0,
-        all: 0,
-        same: 0,
-    };
+    let mut t = Tally { all: 0, same: 0 };
     let mut turns = u64::MAX;
     while turns > 0 {
         match taken(t) {

@@ -1,8 +1,8 @@
--- `replay::record::to_word` is safe: what equals itself is no NaN. Assumes nothing.
+-- `replay::sum::to_word` is safe: what equals itself is no NaN. Assumes nothing.
 use borrow.Author.Needs.{needs}
 use Rattle.float_laws.proofs.Sign.{equals-itself}
-use Rattle.replay.proofs.record.to_word.Statement.{statement}
-use Rattle.replay.proofs.record.to_word.Tie as tie
+use Rattle.replay.proofs.sum.to_word.Statement.{statement}
+use Rattle.replay.proofs.sum.to_word.Tie as tie
 
 returns : tie.Need-returns
 returns c = search needs

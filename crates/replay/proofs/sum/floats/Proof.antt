@@ -1,15 +1,15 @@
--- `replay::record::floats` is safe and ends: what is left of the buffer falls. Assumes nothing.
+-- `replay::sum::floats` is safe and ends: what is left of the buffer falls. Assumes nothing.
 use Prim.Native.Nat.{_-_, _≤_}
 use native.Mathlib.Omega.{arith}
 use lib.ListN.{length}
-use Rattle.replay.proofs.record.floats.Statement.{statement}
-use Rattle.replay.proofs.record.floats.Tie as tie
+use Rattle.replay.proofs.sum.floats.Statement.{statement}
+use Rattle.replay.proofs.sum.floats.Tie as tie
 
 abbrev Inv-loop : tie.InvT-loop
-Inv-loop xs t₀ i₀ t i = i ≤ length xs
+Inv-loop s xs t₀ i₀ t i = i ≤ length xs
 
 abbrev μ-loop : tie.MeasureT-loop
-μ-loop xs t₀ i₀ t i = length xs - i
+μ-loop s xs t₀ i₀ t i = length xs - i
 
 loop-holds : tie.Need-loop-holds Inv-loop μ-loop
 loop-holds c = omega arith
