@@ -1,10 +1,12 @@
 // Every exported call beside the original's: how an input is made, what the library gives, and what it has to give.
 // Where the original would panic or has no such input, the numbers of the scope document stand here.
 use crate::inputs::Inputs;
+use crate::of_conics::*;
+use crate::of_curves::*;
+use crate::of_transforms::*;
 use crate::outputs::{buffer, Output};
 use original::path_geometry as pg;
-use original::path_geometry::{AutoConicToQuads, Conic};
-use original::{NormalizedF32, NormalizedF32Exclusive, Point, Transform};
+use original::{Point, Transform};
 
 include!("../include/nyerdzumak.rs");
 
@@ -25,347 +27,23 @@ pub struct Call {
     pub theirs: fn(&Case, &mut Output),
 }
 
-fn points<const N: usize>(xs: &[f32]) -> [Point; N] {
+pub fn points<const N: usize>(xs: &[f32]) -> [Point; N] {
     std::array::from_fn(|k| Point::from_xy(xs[2 * k], xs[2 * k + 1]))
 }
 
-fn numbers(p: Point) -> [f32; 2] {
+pub fn numbers(p: Point) -> [f32; 2] {
     [p.x, p.y]
 }
 
-fn values(i: &mut Inputs, c: &mut Case) {
+pub fn values(i: &mut Inputs, c: &mut Case) {
     i.begin();
     for x in c.f.iter_mut() {
         *x = i.value();
     }
 }
 
-// ---- the float ground
-
-fn one_double(i: &mut Inputs, c: &mut Case) {
+pub fn one_double(i: &mut Inputs, c: &mut Case) {
     c.x = i.double();
-}
-
-// ---- roots
-
-type Roots2 = unsafe fn(&Case, *mut [f32; 2], *mut u32) -> u32;
-
-fn roots(c: &Case, out: &mut Output, call: Roots2) {
-    let (mut roots, mut count) = (buffer::<2>(), 77);
-    out.number(unsafe { call(c, &mut roots, &mut count) });
-    out.number(count);
-    out.computed(&roots);
-}
-
-fn root(c: &Case, out: &mut Output, call: unsafe fn(&Case, *mut [f32; 1], *mut u32) -> u32) {
-    let (mut root, mut count) = (buffer::<1>(), 77);
-    out.number(unsafe { call(c, &mut root, &mut count) });
-    out.number(count);
-    out.computed(&root);
-}
-
-fn found(out: &mut Output, ts: &[NormalizedF32Exclusive], places: usize) {
-    out.number(0);
-    out.number(ts.len() as u32);
-    for t in ts {
-        out.computed(&[t.get()]);
-    }
-    out.untouched(ts.len(), places);
-}
-
-fn found_one(out: &mut Output, t: Option<NormalizedF32Exclusive>) {
-    match t {
-        Some(t) => found(out, &[t], 1),
-        None => found(out, &[], 1),
-    }
-}
-
-// ---- quads and cubics
-
-fn quad(i: &mut Inputs, c: &mut Case) {
-    curve(i, c, 3, 10)
-}
-
-fn cubic(i: &mut Inputs, c: &mut Case) {
-    curve(i, c, 4, 14)
-}
-
-fn curve(i: &mut Inputs, c: &mut Case, n: usize, room: usize) {
-    i.begin();
-    let (xs, t) = i.curve(n);
-    c.f[..8].copy_from_slice(&xs);
-    c.f[8] = t;
-    c.len = [i.length(2 * n).min(11), i.length(room)];
-}
-
-fn evaluated(c: &Case, out: &mut Output, call: unsafe extern "C" fn(*const f32, usize, f32, *mut [f32; 2]) -> u32) {
-    let mut p = buffer::<2>();
-    out.number(unsafe { call(c.f.as_ptr(), c.len[0], c.f[8], &mut p) });
-    out.computed(&p);
-}
-
-fn evaluation(c: &Case, out: &mut Output, need: usize, at: impl Fn(NormalizedF32) -> Point) {
-    let refused = match NormalizedF32::new(c.f[8]) {
-        None => 8,
-        Some(_) if c.len[0] < need => 2,
-        Some(t) => {
-            out.number(0);
-            return out.computed(&numbers(at(t)));
-        }
-    };
-    out.number(refused);
-    out.untouched(0, 2);
-}
-
-fn chopped(c: &Case, out: &mut Output, call: unsafe extern "C" fn(*const f32, usize, f32, *mut f32, usize) -> u32) {
-    let mut dst = buffer::<20>();
-    out.number(unsafe { call(c.f.as_ptr(), c.len[0], c.f[8], dst.as_mut_ptr(), c.len[1]) });
-    out.computed(&dst);
-}
-
-fn chop<const N: usize>(c: &Case, out: &mut Output, need: usize, cut: impl Fn(NormalizedF32Exclusive, &mut [Point; N])) {
-    let refused = match NormalizedF32Exclusive::new(c.f[8]) {
-        None => 8,
-        Some(_) if c.len[0] < need || c.len[1] < 2 * N => 2,
-        Some(t) => {
-            let mut dst = [Point::zero(); N];
-            cut(t, &mut dst);
-            out.number(0);
-            out.copied(&numbers(dst[0]));
-            for p in &dst[1..N - 1] {
-                out.computed(&numbers(*p));
-            }
-            out.copied(&numbers(dst[N - 1]));
-            return out.untouched(2 * N, 20);
-        }
-    };
-    out.number(refused);
-    out.untouched(0, 20);
-}
-
-fn curvature(c: &Case, out: &mut Output) {
-    let p = points::<3>(&c.f);
-    let refused = if c.len[0] < 6 {
-        2
-    } else {
-        match std::panic::catch_unwind(|| pg::find_quad_max_curvature(&p)) {
-            Ok(t) => {
-                out.number(0);
-                return out.computed(&[t.get()]);
-            }
-            Err(_) => 5,
-        }
-    };
-    out.number(refused);
-    out.untouched(0, 1);
-}
-
-// ---- conics
-
-fn conic(i: &mut Inputs, c: &mut Case) {
-    i.begin();
-    c.f[..6].copy_from_slice(&i.conic());
-    c.f[6] = i.weight();
-    c.f[7] = i.tolerance();
-    c.level = if i.chance(20) { i.next() as u32 >> i.below(32) } else { i.below(5) as u32 };
-    c.len = [i.length(6).min(11), i.length(room(c.level.min(5)))];
-}
-
-fn room(level: u32) -> usize {
-    2 * (2 * (1 << level) + 1)
-}
-
-fn cut(c: &Case, out: &mut Output, call: unsafe extern "C" fn(*const f32, usize, f32, u32, *mut f32, usize) -> u32) {
-    let mut buf = buffer::<140>();
-    out.number(unsafe { call(c.f.as_ptr(), c.len[0], c.f[6], c.level, buf.as_mut_ptr(), c.len[1]) });
-    out.computed(&buf);
-}
-
-// The judge's cut is written into `made`; answers false for a refusal.
-fn judged(c: &Case, out: &mut Output, made: impl Fn(&mut [f32; 66])) {
-    let refused = match c.level {
-        0..=4 if c.len[0] < 6 || c.len[1] < room(c.level) => 2,
-        0..=4 => {
-            let mut all = [0.0; 66];
-            made(&mut all);
-            let end = room(c.level);
-            out.number(0);
-            out.copied(&all[..2]);
-            // pinned points are copies of the middle one, or else computed
-            let middle = [c.f[2].to_bits(), c.f[3].to_bits()];
-            let copies = all[2..end - 2].chunks(2).all(|p| [p[0].to_bits(), p[1].to_bits()] == middle);
-            if copies { out.copied(&all[2..end - 2]) } else { out.computed(&all[2..end - 2]) }
-            out.copied(&all[end - 2..end]);
-            return out.untouched(end, 140);
-        }
-        _ => 1,
-    };
-    out.number(refused);
-    out.untouched(0, 140);
-}
-
-fn by_product(c: &Case, out: &mut Output) {
-    judged(c, out, |all| {
-        let p = points::<3>(&c.f);
-        let mut made = [Point::zero(); 33];
-        Conic::new(p[0], p[1], p[2], c.f[6]).chop_into_quads_pow2(c.level as u8, &mut made);
-        for (k, p) in made.iter().enumerate() {
-            all[2 * k..2 * k + 2].copy_from_slice(&numbers(*p));
-        }
-    });
-}
-
-fn by_exact(c: &Case, out: &mut Output) {
-    judged(c, out, |all| {
-        let at = |k: usize| exact::Point::from_xy(c.f[2 * k], c.f[2 * k + 1]);
-        let mut made = [exact::Point::zero(); 33];
-        exact::path_geometry::Conic::new(at(0), at(1), at(2), c.f[6]).chop_into_quads_pow2(c.level as u8, &mut made);
-        for (k, p) in made.iter().enumerate() {
-            all[2 * k..2 * k + 2].copy_from_slice(&[p.x, p.y]);
-        }
-    });
-}
-
-fn level(c: &Case, out: &mut Output) {
-    let t = c.f[7];
-    let p = points::<3>(&c.f);
-    if t < 0.0 || !t.is_finite() {
-        out.number(4);
-    } else if c.len[0] < 6 {
-        out.number(2);
-    } else if let Some(n) = Conic::new(p[0], p[1], p[2], c.f[6]).compute_quad_pow2(t) {
-        out.number(0);
-        return out.number(n as u32);
-    } else {
-        out.number(3);
-    }
-    out.number(77);
-}
-
-fn halves(c: &Case, out: &mut Output) {
-    if c.len[0] < 6 {
-        out.number(2);
-        return out.untouched(0, 14);
-    }
-    let p = points::<3>(&c.f);
-    let (a, b) = Conic::new(p[0], p[1], p[2], c.f[6]).chop();
-    out.number(0);
-    for (h, end) in [(a, 0), (b, 2)] {
-        for (k, p) in h.points.iter().enumerate() {
-            if k == end { out.copied(&numbers(*p)) } else { out.computed(&numbers(*p)) }
-        }
-        out.computed(&[h.weight]);
-    }
-}
-
-fn automatic(c: &Case, out: &mut Output) {
-    let p = points::<3>(&c.f);
-    let refused = if c.len[0] < 6 {
-        2
-    } else if let Some(a) = AutoConicToQuads::compute(p[0], p[1], p[2], c.f[6]) {
-        out.number(0);
-        out.number(a.len as u32);
-        for p in &a.points {
-            out.computed(&numbers(*p));
-        }
-        return;
-    } else {
-        3
-    };
-    out.number(refused);
-    out.number(77);
-    out.untouched(0, 128);
-}
-
-// ---- transforms
-
-fn matrices(i: &mut Inputs, c: &mut Case) {
-    i.begin();
-    c.f[..6].copy_from_slice(&i.matrix());
-    if i.chance(2) {
-        let m = i.matrix();
-        c.f[6..].copy_from_slice(&m);
-    } else {
-        for x in c.f[6..].iter_mut() {
-            *x = i.value();
-        }
-    }
-    c.len[0] = i.below(7) as usize;
-}
-
-fn first(c: &Case) -> &[f32; 6] {
-    c.f[..6].try_into().unwrap()
-}
-
-fn second(c: &Case) -> &[f32; 6] {
-    c.f[6..].try_into().unwrap()
-}
-
-fn matrix(m: &[f32]) -> Transform {
-    Transform::from_row(m[0], m[1], m[2], m[3], m[4], m[5])
-}
-
-fn given(out: &mut Output, call: impl Fn(*mut [f32; 6]) -> u32) {
-    let mut m = buffer::<6>();
-    out.number(call(&mut m));
-    out.computed(&m);
-}
-
-fn row(out: &mut Output, t: Transform, copied: bool) {
-    out.number(0);
-    let m = [t.sx, t.ky, t.kx, t.sy, t.tx, t.ty];
-    if copied { out.copied(&m) } else { out.computed(&m) }
-}
-
-fn kinds(c: &Case, out: &mut Output) {
-    let m = first(c);
-    unsafe {
-        for k in [
-            nz_transform_is_finite, nz_transform_is_valid, nz_transform_is_identity, nz_transform_is_scale, nz_transform_is_skew,
-            nz_transform_is_translate, nz_transform_is_scale_translate, nz_transform_has_scale, nz_transform_has_skew, nz_transform_has_translate,
-        ] {
-            out.flag(k(m));
-        }
-        let mut scale = buffer::<2>();
-        out.number(nz_transform_get_scale(m, &mut scale));
-        out.computed(&scale);
-    }
-}
-
-fn their_kinds(c: &Case, out: &mut Output) {
-    let t = matrix(&c.f);
-    for b in [
-        t.is_finite(), t.is_valid(), t.is_identity(), t.is_scale(), t.is_skew(), t.is_translate(), t.is_scale_translate(), t.has_scale(), t.has_skew(),
-        t.has_translate(),
-    ] {
-        out.flag(b);
-    }
-    let (x, y) = t.get_scale();
-    out.number(0);
-    out.computed(&[x, y]);
-}
-
-fn mapped(c: &Case, out: &mut Output) {
-    let mut numbers = buffer::<8>();
-    numbers[..c.len[0]].copy_from_slice(&c.f[6..6 + c.len[0]]);
-    out.number(unsafe { nz_transform_map_numbers(first(c), numbers.as_mut_ptr(), c.len[0]) });
-    out.computed(&numbers);
-}
-
-fn their_mapped(c: &Case, out: &mut Output) {
-    let (t, n) = (matrix(&c.f), c.len[0]);
-    if n % 2 == 1 {
-        out.number(9);
-        out.copied(&c.f[6..6 + n]);
-    } else {
-        let mut p: Vec<Point> = c.f[6..6 + n].chunks(2).map(|p| Point::from_xy(p[0], p[1])).collect();
-        t.map_points(&mut p);
-        out.number(0);
-        for p in p {
-            if t.is_identity() { out.copied(&numbers(p)) } else { out.computed(&numbers(p)) }
-        }
-    }
-    out.untouched(n, 8);
 }
 
 pub const CALLS: &[Call] = &[

@@ -1,9 +1,13 @@
 // Every exported call beside the original, in one process, on inputs from a seed. See calls.rs for what is compared
 // and outputs.rs for what counts as the same.
-#[allow(dead_code)] // some of it is for the list alone
+// Some of the modules serve the list alone.
+#![allow(dead_code)]
+
 mod calls;
 mod inputs;
-#[allow(dead_code)]
+mod of_conics;
+mod of_curves;
+mod of_transforms;
 mod outputs;
 
 use calls::{Call, Case, CALLS};

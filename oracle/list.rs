@@ -3,10 +3,14 @@
 // table, the twelve floats, the double, the two lengths and the level of its input, and the two sums over its output.
 // Before the records of a call stands one that names it: 2^32 - 1, the name, and where that ends in word 19.
 // Writes to standard error what the program must then write.
-#[allow(dead_code)] // some of it is for the comparison alone
+// Some of the modules serve the comparison alone.
+#![allow(dead_code)]
+
 mod calls;
 mod inputs;
-#[allow(dead_code)]
+mod of_conics;
+mod of_curves;
+mod of_transforms;
 mod outputs;
 
 use calls::{Case, CALLS};

@@ -1,0 +1,121 @@
+// Conics: how an input is made, what the library leaves, and what the original does.
+use crate::calls::*;
+use crate::inputs::Inputs;
+use crate::outputs::{buffer, Output};
+use original::path_geometry::{AutoConicToQuads, Conic};
+use original::Point;
+
+pub fn conic(i: &mut Inputs, c: &mut Case) {
+    i.begin();
+    c.f[..6].copy_from_slice(&i.conic());
+    c.f[6] = i.weight();
+    c.f[7] = i.tolerance();
+    c.level = if i.chance(20) { i.next() as u32 >> i.below(32) } else { i.below(5) as u32 };
+    c.len = [i.length(6).min(11), i.length(room(c.level.min(5)))];
+}
+
+pub fn room(level: u32) -> usize {
+    2 * (2 * (1 << level) + 1)
+}
+
+pub fn cut(c: &Case, out: &mut Output, call: unsafe extern "C" fn(*const f32, usize, f32, u32, *mut f32, usize) -> u32) {
+    let mut buf = buffer::<140>();
+    out.number(unsafe { call(c.f.as_ptr(), c.len[0], c.f[6], c.level, buf.as_mut_ptr(), c.len[1]) });
+    out.computed(&buf);
+}
+
+// The judge's cut is written into `made`; answers false for a refusal.
+pub fn judged(c: &Case, out: &mut Output, made: impl Fn(&mut [f32; 66])) {
+    let refused = match c.level {
+        0..=4 if c.len[0] < 6 || c.len[1] < room(c.level) => 2,
+        0..=4 => {
+            let mut all = [0.0; 66];
+            made(&mut all);
+            let end = room(c.level);
+            out.number(0);
+            out.copied(&all[..2]);
+            // pinned points are copies of the middle one, or else computed
+            let middle = [c.f[2].to_bits(), c.f[3].to_bits()];
+            let copies = all[2..end - 2].chunks(2).all(|p| [p[0].to_bits(), p[1].to_bits()] == middle);
+            if copies { out.copied(&all[2..end - 2]) } else { out.computed(&all[2..end - 2]) }
+            out.copied(&all[end - 2..end]);
+            return out.untouched(end, 140);
+        }
+        _ => 1,
+    };
+    out.number(refused);
+    out.untouched(0, 140);
+}
+
+pub fn by_product(c: &Case, out: &mut Output) {
+    judged(c, out, |all| {
+        let p = points::<3>(&c.f);
+        let mut made = [Point::zero(); 33];
+        Conic::new(p[0], p[1], p[2], c.f[6]).chop_into_quads_pow2(c.level as u8, &mut made);
+        for (k, p) in made.iter().enumerate() {
+            all[2 * k..2 * k + 2].copy_from_slice(&numbers(*p));
+        }
+    });
+}
+
+pub fn by_exact(c: &Case, out: &mut Output) {
+    judged(c, out, |all| {
+        let at = |k: usize| exact::Point::from_xy(c.f[2 * k], c.f[2 * k + 1]);
+        let mut made = [exact::Point::zero(); 33];
+        exact::path_geometry::Conic::new(at(0), at(1), at(2), c.f[6]).chop_into_quads_pow2(c.level as u8, &mut made);
+        for (k, p) in made.iter().enumerate() {
+            all[2 * k..2 * k + 2].copy_from_slice(&[p.x, p.y]);
+        }
+    });
+}
+
+pub fn level(c: &Case, out: &mut Output) {
+    let t = c.f[7];
+    let p = points::<3>(&c.f);
+    if t < 0.0 || !t.is_finite() {
+        out.number(4);
+    } else if c.len[0] < 6 {
+        out.number(2);
+    } else if let Some(n) = Conic::new(p[0], p[1], p[2], c.f[6]).compute_quad_pow2(t) {
+        out.number(0);
+        return out.number(n as u32);
+    } else {
+        out.number(3);
+    }
+    out.number(77);
+}
+
+pub fn halves(c: &Case, out: &mut Output) {
+    if c.len[0] < 6 {
+        out.number(2);
+        return out.untouched(0, 14);
+    }
+    let p = points::<3>(&c.f);
+    let (a, b) = Conic::new(p[0], p[1], p[2], c.f[6]).chop();
+    out.number(0);
+    for (h, end) in [(a, 0), (b, 2)] {
+        for (k, p) in h.points.iter().enumerate() {
+            if k == end { out.copied(&numbers(*p)) } else { out.computed(&numbers(*p)) }
+        }
+        out.computed(&[h.weight]);
+    }
+}
+
+pub fn automatic(c: &Case, out: &mut Output) {
+    let p = points::<3>(&c.f);
+    let refused = if c.len[0] < 6 {
+        2
+    } else if let Some(a) = AutoConicToQuads::compute(p[0], p[1], p[2], c.f[6]) {
+        out.number(0);
+        out.number(a.len as u32);
+        for p in &a.points {
+            out.computed(&numbers(*p));
+        }
+        return;
+    } else {
+        3
+    };
+    out.number(refused);
+    out.number(77);
+    out.untouched(0, 128);
+}
