@@ -7,7 +7,32 @@ use Rattle.conic.proofs.Sources.{was-made, was-refused}
 use Rattle.nyerdzumak.proofs.conics.nz_auto_conic_to_quads.Statement.{statement}
 use Rattle.nyerdzumak.proofs.conics.nz_auto_conic_to_quads.Tie as tie
 
+-- the source is long enough
+returns : tie.Need-returns
+returns c =
+    let a = c .before .before .before .before .before .before .before .before .before .args in
+    let found = c .before .before .before .before .before .c .given in
+    let told = was-made (a .src .now) (a .weight) (found .0 .0) (sym (c .before .before .before .before .before .before .before .from-points .ensures .answer) ∙ found .1) in
+    let done = c .before .before .before .compute .ensures in
+    rw (told .0, ← told .1, ← done .answer, ← done .points) (c .give-cut .ensures)
+
+-- the source is short
+returns-2 : tie.Need-returns-2
+returns-2 c =
+    let a = c .before .before .before .before .before .before .args in
+    let found = c .before .before .why .given in
+    let told = was-refused (a .src .now) (a .weight) (found .0 .0) (sym (c .before .before .before .before .from-points .ensures .answer) ∙ found .1) in
+    rw (told .0) (c .number-of .ensures ∙ ap (λ (r : Refusal). numberOf r) (told .1), (refl, refl))
+
 pub nz-auto-conic-to-quads-spec : {M : Type 1} → statement M
-nz-auto-conic-to-quads-spec = tie.close (tie.spec (λ c κs. tt) (λ c. search needs) (λ c κs. tt) (λ c κs. tt) (λ c. search needs) (λ c κs. tt)
-    (λ c. let a = c .before .before .before .before .before .before .before .before .before .args in let told = was-made (a .src .now) (a .weight) (c .before .before .before .before .before .c .given .0 .0) (sym (c .before .before .before .before .before .before .before .from-points .ensures .answer) ∙ c .before .before .before .before .before .c .given .1) in let done = c .before .before .before .compute .ensures in rw (told .0, ← told .1, ← done .answer, ← done .points) (c .give-cut .ensures))
-    (λ c. let a = c .before .before .before .before .before .before .args in let told = was-refused (a .src .now) (a .weight) (c .before .before .why .given .0 .0) (sym (c .before .before .before .before .from-points .ensures .answer) ∙ c .before .before .why .given .1) in rw (told .0) (c .number-of .ensures ∙ ap (λ (r : Refusal). numberOf r) (told .1), (refl, refl))))
+nz-auto-conic-to-quads-spec =
+    tie.close
+    (tie.spec
+    (λ c κs. tt)
+    (λ c. search needs)
+    (λ c κs. tt)
+    (λ c κs. tt)
+    (λ c. search needs)
+    (λ c κs. tt)
+    returns
+    returns-2)

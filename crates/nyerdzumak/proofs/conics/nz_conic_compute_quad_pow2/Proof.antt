@@ -4,4 +4,6 @@ use Rattle.nyerdzumak.proofs.conics.nz_conic_compute_quad_pow2.Statemen
 use Rattle.nyerdzumak.proofs.conics.nz_conic_compute_quad_pow2.Tie as tie
 
 pub nz-conic-compute-quad-pow2-spec : {M : Type 1} → statement M
-nz-conic-compute-quad-pow2-spec = tie.close (tie.spec (λ c κs. tt) (λ c κs. tt) (λ c. (c .give-level .ensures .0 ∙ c .before .before .compute-quad-pow2-from .ensures .number, rw (← c .before .before .compute-quad-pow2-from .ensures .answer) (c .give-level .ensures .1))))
+nz-conic-compute-quad-pow2-spec =
+    tie.close (tie.spec (λ c κs. tt) (λ c κs. tt)
+    (λ c. (c .give-level .ensures .0 ∙ c .before .before .compute-quad-pow2-from .ensures .number, rw (← c .before .before .compute-quad-pow2-from .ensures .answer) (c .give-level .ensures .1))))

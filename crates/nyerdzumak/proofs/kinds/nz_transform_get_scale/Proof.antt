@@ -4,4 +4,6 @@ use Rattle.nyerdzumak.proofs.kinds.nz_transform_get_scale.Statement.{st
 use Rattle.nyerdzumak.proofs.kinds.nz_transform_get_scale.Tie as tie
 
 pub nz-transform-get-scale-spec : {M : Type 1} → statement M
-nz-transform-get-scale-spec = tie.close (tie.spec (λ c κs. tt) (λ c κs. tt) (λ c. rw (← c .before .before .matrix .ensures, ← c .before .get-scale .ensures) (refl, refl)))
+nz-transform-get-scale-spec =
+    tie.close (tie.spec (λ c κs. tt) (λ c κs. tt)
+    (λ c. rw (← c .before .before .matrix .ensures, ← c .before .get-scale .ensures) (refl, refl)))

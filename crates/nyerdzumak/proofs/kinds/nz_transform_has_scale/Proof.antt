@@ -6,4 +6,6 @@ use Rattle.nyerdzumak.proofs.kinds.nz_transform_has_scale.Statement.{st
 use Rattle.nyerdzumak.proofs.kinds.nz_transform_has_scale.Tie as tie
 
 pub nz-transform-has-scale-spec : {M : Type 1} → statement M
-nz-transform-has-scale-spec = tie.close (tie.spec (λ c κs. tt) (λ c κs. tt) (λ c. c .has-scale .ensures ∙ ap (λ (t : Transform). hasScale t) (c .before .matrix .ensures)))
+nz-transform-has-scale-spec =
+    tie.close (tie.spec (λ c κs. tt) (λ c κs. tt)
+    (λ c. c .has-scale .ensures ∙ ap (λ (t : Transform). hasScale t) (c .before .matrix .ensures)))

@@ -6,4 +6,6 @@ use Rattle.nyerdzumak.proofs.kinds.nz_transform_has_skew.Statement.{sta
 use Rattle.nyerdzumak.proofs.kinds.nz_transform_has_skew.Tie as tie
 
 pub nz-transform-has-skew-spec : {M : Type 1} → statement M
-nz-transform-has-skew-spec = tie.close (tie.spec (λ c κs. tt) (λ c κs. tt) (λ c. c .has-skew .ensures ∙ ap (λ (t : Transform). hasSkew t) (c .before .matrix .ensures)))
+nz-transform-has-skew-spec =
+    tie.close (tie.spec (λ c κs. tt) (λ c κs. tt)
+    (λ c. c .has-skew .ensures ∙ ap (λ (t : Transform). hasSkew t) (c .before .matrix .ensures)))

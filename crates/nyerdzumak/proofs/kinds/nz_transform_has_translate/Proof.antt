@@ -6,4 +6,6 @@ use Rattle.nyerdzumak.proofs.kinds.nz_transform_has_translate.Statement
 use Rattle.nyerdzumak.proofs.kinds.nz_transform_has_translate.Tie as tie
 
 pub nz-transform-has-translate-spec : {M : Type 1} → statement M
-nz-transform-has-translate-spec = tie.close (tie.spec (λ c κs. tt) (λ c κs. tt) (λ c. c .has-translate .ensures ∙ ap (λ (t : Transform). hasTranslate t) (c .before .matrix .ensures)))
+nz-transform-has-translate-spec =
+    tie.close (tie.spec (λ c κs. tt) (λ c κs. tt)
+    (λ c. c .has-translate .ensures ∙ ap (λ (t : Transform). hasTranslate t) (c .before .matrix .ensures)))

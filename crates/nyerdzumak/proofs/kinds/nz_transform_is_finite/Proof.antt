@@ -6,4 +6,6 @@ use Rattle.nyerdzumak.proofs.kinds.nz_transform_is_finite.Statement.{st
 use Rattle.nyerdzumak.proofs.kinds.nz_transform_is_finite.Tie as tie
 
 pub nz-transform-is-finite-spec : {M : Type 1} → statement M
-nz-transform-is-finite-spec = tie.close (tie.spec (λ c κs. tt) (λ c κs. tt) (λ c. c .is-finite .ensures ∙ ap (λ (t : Transform). isFinite t) (c .before .matrix .ensures)))
+nz-transform-is-finite-spec =
+    tie.close (tie.spec (λ c κs. tt) (λ c κs. tt)
+    (λ c. c .is-finite .ensures ∙ ap (λ (t : Transform). isFinite t) (c .before .matrix .ensures)))

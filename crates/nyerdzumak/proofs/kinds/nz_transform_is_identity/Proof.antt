@@ -6,4 +6,6 @@ use Rattle.nyerdzumak.proofs.kinds.nz_transform_is_identity.Statement.{
 use Rattle.nyerdzumak.proofs.kinds.nz_transform_is_identity.Tie as tie
 
 pub nz-transform-is-identity-spec : {M : Type 1} → statement M
-nz-transform-is-identity-spec = tie.close (tie.spec (λ c κs. tt) (λ c κs. tt) (λ c. c .is-identity .ensures ∙ ap (λ (t : Transform). isIdentity t) (c .before .matrix .ensures)))
+nz-transform-is-identity-spec =
+    tie.close (tie.spec (λ c κs. tt) (λ c κs. tt)
+    (λ c. c .is-identity .ensures ∙ ap (λ (t : Transform). isIdentity t) (c .before .matrix .ensures)))

@@ -6,4 +6,6 @@ use Rattle.nyerdzumak.proofs.kinds.nz_transform_is_scale.Statement.{sta
 use Rattle.nyerdzumak.proofs.kinds.nz_transform_is_scale.Tie as tie
 
 pub nz-transform-is-scale-spec : {M : Type 1} → statement M
-nz-transform-is-scale-spec = tie.close (tie.spec (λ c κs. tt) (λ c κs. tt) (λ c. c .is-scale .ensures ∙ ap (λ (t : Transform). isScale t) (c .before .matrix .ensures)))
+nz-transform-is-scale-spec =
+    tie.close (tie.spec (λ c κs. tt) (λ c κs. tt)
+    (λ c. c .is-scale .ensures ∙ ap (λ (t : Transform). isScale t) (c .before .matrix .ensures)))

@@ -6,4 +6,6 @@ use Rattle.nyerdzumak.proofs.kinds.nz_transform_is_scale_translate.Stat
 use Rattle.nyerdzumak.proofs.kinds.nz_transform_is_scale_translate.Tie as tie
 
 pub nz-transform-is-scale-translate-spec : {M : Type 1} → statement M
-nz-transform-is-scale-translate-spec = tie.close (tie.spec (λ c κs. tt) (λ c κs. tt) (λ c. c .is-scale-translate .ensures ∙ ap (λ (t : Transform). isScaleTranslate t) (c .before .matrix .ensures)))
+nz-transform-is-scale-translate-spec =
+    tie.close (tie.spec (λ c κs. tt) (λ c κs. tt)
+    (λ c. c .is-scale-translate .ensures ∙ ap (λ (t : Transform). isScaleTranslate t) (c .before .matrix .ensures)))

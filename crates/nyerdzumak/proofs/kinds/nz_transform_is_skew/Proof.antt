@@ -6,4 +6,6 @@ use Rattle.nyerdzumak.proofs.kinds.nz_transform_is_skew.Statement.{stat
 use Rattle.nyerdzumak.proofs.kinds.nz_transform_is_skew.Tie as tie
 
 pub nz-transform-is-skew-spec : {M : Type 1} → statement M
-nz-transform-is-skew-spec = tie.close (tie.spec (λ c κs. tt) (λ c κs. tt) (λ c. c .is-skew .ensures ∙ ap (λ (t : Transform). isSkew t) (c .before .matrix .ensures)))
+nz-transform-is-skew-spec =
+    tie.close (tie.spec (λ c κs. tt) (λ c κs. tt)
+    (λ c. c .is-skew .ensures ∙ ap (λ (t : Transform). isSkew t) (c .before .matrix .ensures)))

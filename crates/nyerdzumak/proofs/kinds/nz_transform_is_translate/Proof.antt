@@ -6,4 +6,6 @@ use Rattle.nyerdzumak.proofs.kinds.nz_transform_is_translate.Statement.
 use Rattle.nyerdzumak.proofs.kinds.nz_transform_is_translate.Tie as tie
 
 pub nz-transform-is-translate-spec : {M : Type 1} → statement M
-nz-transform-is-translate-spec = tie.close (tie.spec (λ c κs. tt) (λ c κs. tt) (λ c. c .is-translate .ensures ∙ ap (λ (t : Transform). isTranslate t) (c .before .matrix .ensures)))
+nz-transform-is-translate-spec =
+    tie.close (tie.spec (λ c κs. tt) (λ c κs. tt)
+    (λ c. c .is-translate .ensures ∙ ap (λ (t : Transform). isTranslate t) (c .before .matrix .ensures)))

@@ -6,4 +6,6 @@ use Rattle.nyerdzumak.proofs.kinds.nz_transform_is_valid.Statement.{sta
 use Rattle.nyerdzumak.proofs.kinds.nz_transform_is_valid.Tie as tie
 
 pub nz-transform-is-valid-spec : {M : Type 1} → statement M
-nz-transform-is-valid-spec = tie.close (tie.spec (λ c κs. tt) (λ c κs. tt) (λ c. c .is-valid .ensures ∙ ap (λ (t : Transform). isValid t) (c .before .matrix .ensures)))
+nz-transform-is-valid-spec =
+    tie.close (tie.spec (λ c κs. tt) (λ c κs. tt)
+    (λ c. c .is-valid .ensures ∙ ap (λ (t : Transform). isValid t) (c .before .matrix .ensures)))

@@ -3,4 +3,6 @@ use Rattle.nyerdzumak.proofs.roots.nz_find_cubic_extrema.Statement.{sta
 use Rattle.nyerdzumak.proofs.roots.nz_find_cubic_extrema.Tie as tie
 
 pub nz-find-cubic-extrema-spec : {M : Type 1} → statement M
-nz-find-cubic-extrema-spec = tie.close (tie.spec (λ c κs. tt) (λ c κs. tt) (λ c κs. tt) (λ c. rw (← c .before .before .before .before .find-cubic-extrema .ensures .0, ← c .before .before .before .of-extrema .ensures) (c .give .ensures)))
+nz-find-cubic-extrema-spec =
+    tie.close (tie.spec (λ c κs. tt) (λ c κs. tt) (λ c κs. tt)
+    (λ c. rw (← c .before .before .before .before .find-cubic-extrema .ensures .0, ← c .before .before .before .of-extrema .ensures) (c .give .ensures)))

@@ -3,4 +3,6 @@ use Rattle.nyerdzumak.proofs.roots.nz_find_unit_quad_roots.Statement.{s
 use Rattle.nyerdzumak.proofs.roots.nz_find_unit_quad_roots.Tie as tie
 
 pub nz-find-unit-quad-roots-spec : {M : Type 1} → statement M
-nz-find-unit-quad-roots-spec = tie.close (tie.spec (λ c κs. tt) (λ c κs. tt) (λ c. rw (← c .before .before .before .find-unit-quad-roots .ensures) (c .give .ensures)))
+nz-find-unit-quad-roots-spec =
+    tie.close (tie.spec (λ c κs. tt) (λ c κs. tt)
+    (λ c. rw (← c .before .before .before .find-unit-quad-roots .ensures) (c .give .ensures)))

@@ -3,4 +3,6 @@ use Rattle.nyerdzumak.proofs.roots.nz_valid_unit_divide.Statement.{stat
 use Rattle.nyerdzumak.proofs.roots.nz_valid_unit_divide.Tie as tie
 
 pub nz-valid-unit-divide-spec : {M : Type 1} → statement M
-nz-valid-unit-divide-spec = tie.close (tie.spec (λ c κs. tt) (λ c κs. tt) (λ c. rw (← c .before .before .before .valid-unit-divide .ensures) (c .give-one .ensures)))
+nz-valid-unit-divide-spec =
+    tie.close (tie.spec (λ c κs. tt) (λ c κs. tt)
+    (λ c. rw (← c .before .before .before .valid-unit-divide .ensures) (c .give-one .ensures)))

@@ -4,4 +4,6 @@ use Rattle.nyerdzumak.proofs.shapes.nz_eval_quad_at.Statement.{statemen
 use Rattle.nyerdzumak.proofs.shapes.nz_eval_quad_at.Tie as tie
 
 pub nz-eval-quad-at-spec : {M : Type 1} → statement M
-nz-eval-quad-at-spec = tie.close (tie.spec (λ c κs. tt) (λ c κs. tt) (λ c. (c .give .ensures .0 ∙ c .before .before .eval-quad-at .ensures .1, rw (← c .before .before .eval-quad-at .ensures .0) (c .give .ensures .1))))
+nz-eval-quad-at-spec =
+    tie.close (tie.spec (λ c κs. tt) (λ c κs. tt)
+    (λ c. (c .give .ensures .0 ∙ c .before .before .eval-quad-at .ensures .1, rw (← c .before .before .eval-quad-at .ensures .0) (c .give .ensures .1))))

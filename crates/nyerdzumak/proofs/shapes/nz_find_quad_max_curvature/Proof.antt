@@ -4,4 +4,6 @@ use Rattle.nyerdzumak.proofs.shapes.nz_find_quad_max_curvature.Statemen
 use Rattle.nyerdzumak.proofs.shapes.nz_find_quad_max_curvature.Tie as tie
 
 pub nz-find-quad-max-curvature-spec : {M : Type 1} → statement M
-nz-find-quad-max-curvature-spec = tie.close (tie.spec (λ c κs. tt) (λ c κs. tt) (λ c. (c .give-curvature .ensures .0 ∙ c .before .before .find-quad-max-curvature .ensures .1, rw (← c .before .before .find-quad-max-curvature .ensures .0) (c .give-curvature .ensures .1))))
+nz-find-quad-max-curvature-spec =
+    tie.close (tie.spec (λ c κs. tt) (λ c κs. tt)
+    (λ c. (c .give-curvature .ensures .0 ∙ c .before .before .find-quad-max-curvature .ensures .1, rw (← c .before .before .find-quad-max-curvature .ensures .0) (c .give-curvature .ensures .1))))

@@ -3,4 +3,6 @@ use Rattle.nyerdzumak.proofs.transforms.nz_transform_from_scale.Stateme
 use Rattle.nyerdzumak.proofs.transforms.nz_transform_from_scale.Tie as tie
 
 pub nz-transform-from-scale-spec : {M : Type 1} → statement M
-nz-transform-from-scale-spec = tie.close (tie.spec (λ c κs. tt) (λ c κs. tt) (λ c. rw (← c .before .before .from-scale .ensures) (c .give .ensures)))
+nz-transform-from-scale-spec =
+    tie.close (tie.spec (λ c κs. tt) (λ c κs. tt)
+    (λ c. rw (← c .before .before .from-scale .ensures) (c .give .ensures)))

@@ -6,4 +6,6 @@ use Rattle.nyerdzumak.proofs.transforms.nz_transform_from_skew.Statemen
 use Rattle.nyerdzumak.proofs.transforms.nz_transform_from_skew.Tie as tie
 
 pub nz-transform-from-skew-spec : {M : Type 1} → statement M
-nz-transform-from-skew-spec = tie.close (tie.spec (λ c κs. tt) (λ c κs. tt) (λ c. (c .give .ensures .0, c .give .ensures .1 ∙ ap (λ (t : Transform). rowNumbers t) (c .before .before .from-skew .ensures))))
+nz-transform-from-skew-spec =
+    tie.close (tie.spec (λ c κs. tt) (λ c κs. tt)
+    (λ c. (c .give .ensures .0, c .give .ensures .1 ∙ ap (λ (t : Transform). rowNumbers t) (c .before .before .from-skew .ensures))))

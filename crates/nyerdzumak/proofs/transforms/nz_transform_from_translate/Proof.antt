@@ -3,4 +3,6 @@ use Rattle.nyerdzumak.proofs.transforms.nz_transform_from_translate.Sta
 use Rattle.nyerdzumak.proofs.transforms.nz_transform_from_translate.Tie as tie
 
 pub nz-transform-from-translate-spec : {M : Type 1} → statement M
-nz-transform-from-translate-spec = tie.close (tie.spec (λ c κs. tt) (λ c κs. tt) (λ c. rw (← c .before .before .from-translate .ensures) (c .give .ensures)))
+nz-transform-from-translate-spec =
+    tie.close (tie.spec (λ c κs. tt) (λ c κs. tt)
+    (λ c. rw (← c .before .before .from-translate .ensures) (c .give .ensures)))

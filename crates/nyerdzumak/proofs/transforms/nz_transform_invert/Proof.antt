@@ -4,4 +4,6 @@ use Rattle.nyerdzumak.proofs.transforms.nz_transform_invert.Statement.{
 use Rattle.nyerdzumak.proofs.transforms.nz_transform_invert.Tie as tie
 
 pub nz-transform-invert-spec : {M : Type 1} → statement M
-nz-transform-invert-spec = tie.close (tie.spec (λ c κs. tt) (λ c κs. tt) (λ c κs. tt) (λ c. rw (← c .before .before .before .matrix .ensures) (c .give-inverse .ensures .0 ∙ c .before .before .invert .ensures .1, rw (← c .before .before .invert .ensures .0) (c .give-inverse .ensures .1))))
+nz-transform-invert-spec =
+    tie.close (tie.spec (λ c κs. tt) (λ c κs. tt) (λ c κs. tt)
+    (λ c. rw (← c .before .before .before .matrix .ensures) (c .give-inverse .ensures .0 ∙ c .before .before .invert .ensures .1, rw (← c .before .before .invert .ensures .0) (c .give-inverse .ensures .1))))

@@ -5,4 +5,6 @@ use Rattle.nyerdzumak.proofs.transforms.nz_transform_map_point.Statemen
 use Rattle.nyerdzumak.proofs.transforms.nz_transform_map_point.Tie as tie
 
 pub nz-transform-map-point-spec : {M : Type 1} → statement M
-nz-transform-map-point-spec = tie.close (tie.spec (λ c κs. tt) (λ c. search needs) (λ c. search needs) (λ c κs. tt) (λ c. rw (← c .before .before .before .before .matrix .ensures, ← c .before .map-point .ensures) (refl, refl)))
+nz-transform-map-point-spec =
+    tie.close (tie.spec (λ c κs. tt) (λ c. search needs) (λ c. search needs) (λ c κs. tt)
+    (λ c. rw (← c .before .before .before .before .matrix .ensures, ← c .before .map-point .ensures) (refl, refl)))

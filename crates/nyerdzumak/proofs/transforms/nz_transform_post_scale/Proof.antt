@@ -3,4 +3,6 @@ use Rattle.nyerdzumak.proofs.transforms.nz_transform_post_scale.Stateme
 use Rattle.nyerdzumak.proofs.transforms.nz_transform_post_scale.Tie as tie
 
 pub nz-transform-post-scale-spec : {M : Type 1} → statement M
-nz-transform-post-scale-spec = tie.close (tie.spec (λ c κs. tt) (λ c κs. tt) (λ c κs. tt) (λ c. rw (← c .before .before .before .matrix .ensures, ← c .before .before .post-scale .ensures) (c .give .ensures)))
+nz-transform-post-scale-spec =
+    tie.close (tie.spec (λ c κs. tt) (λ c κs. tt) (λ c κs. tt)
+    (λ c. rw (← c .before .before .before .matrix .ensures, ← c .before .before .post-scale .ensures) (c .give .ensures)))

@@ -3,4 +3,6 @@ use Rattle.nyerdzumak.proofs.transforms.nz_transform_pre_scale.Statemen
 use Rattle.nyerdzumak.proofs.transforms.nz_transform_pre_scale.Tie as tie
 
 pub nz-transform-pre-scale-spec : {M : Type 1} → statement M
-nz-transform-pre-scale-spec = tie.close (tie.spec (λ c κs. tt) (λ c κs. tt) (λ c κs. tt) (λ c. rw (← c .before .before .before .matrix .ensures, ← c .before .before .pre-scale .ensures) (c .give .ensures)))
+nz-transform-pre-scale-spec =
+    tie.close (tie.spec (λ c κs. tt) (λ c κs. tt) (λ c κs. tt)
+    (λ c. rw (← c .before .before .before .matrix .ensures, ← c .before .before .pre-scale .ensures) (c .give .ensures)))
