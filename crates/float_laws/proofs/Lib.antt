@@ -1,3 +1,4 @@
+pub mod Apart
 pub mod Narrowed
 pub mod NearRoot
 pub mod Order
@@ -7,4 +8,5 @@ pub mod RootMeaning
 pub mod Rounding
 pub mod Sides
 pub mod Sign
+pub mod Squares
 pub mod Values

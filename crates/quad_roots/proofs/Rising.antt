@@ -13,7 +13,7 @@ use Rattle.quad_roots.specs.declared.Divided.the-variants as D
 use Rattle.quad_roots.specs.declared.Roots.{Roots}
 use Rattle.quad_roots.specs.declared.Roots.the-variants.{None, One, Two}
 use Rattle.quad_roots.specs.Roots.{zero32, one32, inside, quotientOf, dividedOf, asRoots, twoRoots, collected, discriminantOf, qOf, rootsOf, valuesOf, Rising}
-use Rattle.quad_roots.proofs.Ground.{apart}
+use Rattle.float_laws.proofs.Apart.{apart}
 
 abbrev Good : Roots → Type 0
 Good x = Rising (valuesOf x)

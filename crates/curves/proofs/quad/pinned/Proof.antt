@@ -1,6 +1,6 @@
 -- `curves::quad::pinned` meets its contract. Assumes nothing.
 use mathlib.Core.Path.{refl}
-use Rattle.curves.proofs.Ground.{nan-test}
+use Rattle.float_laws.proofs.Squares.{nan-test}
 use Rattle.curves.proofs.quad.pinned.Statement.{statement}
 use Rattle.curves.proofs.quad.pinned.Tie as tie
 

@@ -1,6 +1,6 @@
 -- `curves::quad::Quad::max_curvature` meets its contract. The denominator is a sum of squares, so no sign flips. Assumes nothing.
 use Rattle.curves.specs.Quads.{quadCurvature}
-use Rattle.curves.proofs.Ground.{sum-of-squares}
+use Rattle.float_laws.proofs.Squares.{sum-of-squares}
 use Rattle.quad_roots.proofs.Asks.{nothing}
 use Rattle.curves.proofs.quad.Quad.max_curvature.Statement.{statement}
 use Rattle.curves.proofs.quad.Quad.max_curvature.Tie as tie
