@@ -24,7 +24,7 @@ pub fn cut(c: &Case, out: &mut Output, call: unsafe extern "C" fn(*const f32, us
     out.computed(&buf);
 }
 
-// The judge's cut is written into `made`; answers false for a refusal.
+// What a cut has to leave: the refusal that comes first, or the points that `made` writes, and the tail as it stood.
 pub fn judged(c: &Case, out: &mut Output, made: impl Fn(&mut [f32; 66])) {
     let refused = match c.level {
         0..=4 if c.len[0] < 6 || c.len[1] < room(c.level) => 2,

@@ -48,7 +48,7 @@ fn points(out: &[f32; 66], count: usize) {
 
 fn refused(why: Refusal) {
     text(b"refused ");
-    io::print_decimal(STDOUT_FILENO, bridge_lines::refusal(why) as u64);
+    io::print_decimal(STDOUT_FILENO, why.number() as u64);
     text(b"\n");
 }
 

@@ -1,9 +1,7 @@
 // Bridges as lines of text: a line is read to a bridge or to what is wrong with it.
 ghost use mathlib.Core.Path.{_≡_};
-ghost use Rattle.conic.specs.Refusal.{numberOf};
 ghost use Rattle.bridge_lines.specs.Reading.{readOf};
 use conic::Conic;
-use conic::Refusal;
 
 mod number;
 mod steps;
@@ -47,16 +45,4 @@ pub fn read(line: &[u8]) -> Line
         i += 1;
     }
     steps::told(steps::step(s, b' '))
-}
-
-// The number that a refusal has in the library's table.
-pub fn refusal(why: Refusal) -> u32
-    ensures { λ r. ⌜ r ≡ numberOf why ⌝ }
-{
-    match why {
-        Refusal::LevelTooHigh => 1,
-        Refusal::BufferTooShort => 2,
-        Refusal::PointNotFinite => 3,
-        Refusal::BadTolerance => 4,
-    }
 }

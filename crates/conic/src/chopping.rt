@@ -1,6 +1,6 @@
 // The formulas of a chop, one axis at a time. Carried over from `path_geometry.rs` of tiny-skia-path 0.12.0.
 ghost use mathlib.Core.Path.{_≡_};
-ghost use Rattle.conic.specs.Chop.{conicFrom, pointFrom, lineOf, withMiddle, wideMiddle, scaleOf, linesAt, weightOf, halvesAt};
+ghost use Rattle.conic.specs.Chop.{conicFrom, pointFrom, lineOf, withMiddle, wideMiddle, linesAt, halvesAt};
 use crate::Conic;
 use crate::Halves;
 use point::Point;
@@ -46,13 +46,6 @@ fn widened(l: Line, a: f32, b: f32, c: f32, weight: f32) -> Line
     }
 }
 
-// The scale of a chop.
-pub fn scale(w: f32) -> f32
-    ensures { λ r. ⌜ r ≡ scaleOf w ⌝ }
-{
-    1.0 / (1.0 + w)
-}
-
 // Both axes of a chop. Both middles are computed again where the point that they make is not finite.
 pub fn chopped(c: Conic, scale: f32) -> Lines
     ensures { λ r. ⌜ r ≡ linesAt scale c ⌝ }
@@ -69,13 +62,6 @@ pub fn chopped(c: Conic, scale: f32) -> Lines
     let x = widened(x, c.p0.x, c.p1.x, c.p2.x, c.weight);
     let y = widened(y, c.p0.y, c.p1.y, c.p2.y, c.weight);
     Lines { x, y }
-}
-
-// The weight of both halves.
-pub fn subdivide_weight_value(w: f32) -> f32
-    ensures { λ r. ⌜ r ≡ weightOf w ⌝ }
-{
-    float_ground::sqrt_f32(0.5 + w * 0.5)
 }
 
 // The conic from p0 to p2, bent towards the point at x, y.

@@ -7,6 +7,7 @@ ghost use lib.ListN.{length};
 ghost use Rattle.conic.specs.Between.{productTest, exactTest, test};
 ghost use Rattle.conic.specs.Chop.{conicFrom, scaleOf, weightOf, chopOf, chopAt, chopBy};
 ghost use Rattle.conic.specs.Level.{Chosen};
+ghost use Rattle.conic.specs.Refusal.{numberOf};
 ghost use Rattle.conic.specs.Source.{conicOf, Taken};
 use point::Point;
 
@@ -40,6 +41,20 @@ pub enum Refusal {
     BufferTooShort,
     PointNotFinite,
     BadTolerance,
+}
+
+impl Refusal {
+    // Its number in the table of refusals.
+    pub fn number(self) -> u32
+        ensures { λ r. ⌜ r ≡ numberOf self ⌝ }
+    {
+        match self {
+            Refusal::LevelTooHigh => 1,
+            Refusal::BufferTooShort => 2,
+            Refusal::PointNotFinite => 3,
+            Refusal::BadTolerance => 4,
+        }
+    }
 }
 
 // The conic of a lent source.
@@ -123,14 +138,14 @@ impl Conic {
     pub fn scale(weight: f32) -> f32
         ensures { λ r. ⌜ r ≡ scaleOf weight ⌝ }
     {
-        chopping::scale(weight)
+        1.0 / (1.0 + weight)
     }
 
     // The weight of both halves, by the conic's.
     pub fn subdivide_weight_value(weight: f32) -> f32
         ensures { λ r. ⌜ r ≡ weightOf weight ⌝ }
     {
-        chopping::subdivide_weight_value(weight)
+        float_ground::sqrt_f32(0.5 + weight * 0.5)
     }
 
     // Both halves, with their ys moved into order where the rule's test finds the conic's own in order.

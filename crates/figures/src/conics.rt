@@ -12,14 +12,8 @@ const BEND: [f32; 6] = [0.0, 0.0, 4.0, 0.0, 4.0, 4.0];
 const BACK: [f32; 6] = [0.0, 0.0, 0.0, 8.0, 0.0, 0.0];
 
 fn refusal(r: Refusal) {
-    let number = match r {
-        Refusal::LevelTooHigh => 1,
-        Refusal::BufferTooShort => 2,
-        Refusal::PointNotFinite => 3,
-        Refusal::BadTolerance => 4,
-    };
     print::text(b" refusal");
-    print::count(number);
+    print::count(r.number() as u64);
 }
 
 fn yes(is: bool) {

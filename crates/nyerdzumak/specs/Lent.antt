@@ -12,9 +12,6 @@ use Rattle.transform.specs.Row.{rowOf}
 abbrev pub pointNumbers : Point → List Float
 pointNumbers p = p .x ∷ p .y ∷ []
 
-abbrev pub pointOf : List Float → Point
-pointOf l = record { x = getD l 0 nan; y = getD l 1 nan }
-
 -- six numbers in the order of `from_row`
 abbrev pub matrixOf : List Float → Transform
 matrixOf m = rowOf (getD m 0 nan) (getD m 1 nan) (getD m 2 nan) (getD m 3 nan) (getD m 4 nan) (getD m 5 nan)

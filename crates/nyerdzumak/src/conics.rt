@@ -18,7 +18,6 @@ ghost use Rattle.nyerdzumak.specs.Lent.{halfNumbers};
 use conic::Conic;
 use conic::FromPoints;
 use conic::Level;
-use conic::Refusal;
 use conic::Rule;
 use conic_cut::AutoConicToQuads;
 use conic_cut::Cut;
@@ -37,17 +36,6 @@ pub extern "C" fn nz_between_exact(a: f32, b: f32, c: f32) -> bool
     ensures { λ r. ⌜ r ≡ exactTest a b c ⌝ }
 {
     conic::between_exact(a, b, c)
-}
-
-fn number_of(why: Refusal) -> u32
-    ensures { λ r. ⌜ r ≡ numberOf why ⌝ }
-{
-    match why {
-        Refusal::LevelTooHigh => 1,
-        Refusal::BufferTooShort => 2,
-        Refusal::PointNotFinite => 3,
-        Refusal::BadTolerance => 4,
-    }
 }
 
 // Stores both halves of a conic, seven numbers each.
@@ -83,7 +71,7 @@ pub extern "C" fn nz_conic_chop(src: &[f32], weight: f32, halves: &mut [f32; 14]
 {
     match Conic::from_points(src, weight) {
         FromPoints::Made(c) => give_halves(c, halves),
-        FromPoints::Refused(why) => number_of(why),
+        FromPoints::Refused(why) => why.number(),
     }
 }
 
@@ -97,7 +85,7 @@ fn give_level(answer: Level, level: &mut u32) -> u32
             *level = n;
             0
         }
-        Level::Refused(why) => number_of(why),
+        Level::Refused(why) => why.number(),
     }
 }
 
@@ -120,7 +108,7 @@ fn number_of_cut(answer: Cut) -> u32
 {
     match answer {
         Cut::Quads(_) => 0,
-        Cut::Refused(why) => number_of(why),
+        Cut::Refused(why) => why.number(),
     }
 }
 
@@ -162,7 +150,7 @@ fn give_cut(cut: AutoConicToQuads, out: &mut [f32; 128], quads: &mut usize) -> u
             *quads = n;
             0
         }
-        Cut::Refused(why) => number_of(why),
+        Cut::Refused(why) => why.number(),
     }
 }
 
@@ -184,6 +172,6 @@ pub extern "C" fn nz_auto_conic_to_quads(
             out,
             quads,
         ),
-        FromPoints::Refused(why) => number_of(why),
+        FromPoints::Refused(why) => why.number(),
     }
 }

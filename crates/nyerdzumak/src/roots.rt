@@ -6,7 +6,7 @@ ghost use lib.ListN.{length};
 ghost use lib.Seq.{sets};
 ghost use Rattle.quad_roots.specs.Roots.{dividedOf, rootsOf};
 ghost use Rattle.curves.specs.Quads.{quadExtrema};
-ghost use Rattle.cubics.specs.Cubics.{cubicExtrema, extremaOf, inflectionsAnswer};
+ghost use Rattle.cubics.specs.Cubics.{cubicOf, cubicExtrema, cubicInflections};
 ghost use Rattle.nyerdzumak.specs.Found.{listOf, countOf, atMostOne, ofExtrema, ofInflections};
 use cubics::Extrema;
 use cubics::Inflections;
@@ -122,8 +122,8 @@ pub extern "C" fn nz_find_cubic_extrema(
     count: &mut u32,
 ) -> u32
     ensures { λ r. ⌜ r ≡ 0 ⌝ }
-    ensures roots { λ _. ⌜ now (roots .exit) ≡ sets (now (roots .entry)) 0 (listOf (ofExtrema (extremaOf (cubicExtrema a b c d)))) ⌝ }
-    ensures count { λ _. ⌜ now (count .exit) ≡ countOf (ofExtrema (extremaOf (cubicExtrema a b c d))) ⌝ }
+    ensures roots { λ _. ⌜ now (roots .exit) ≡ sets (now (roots .entry)) 0 (listOf (cubicExtrema a b c d)) ⌝ }
+    ensures count { λ _. ⌜ now (count .exit) ≡ countOf (cubicExtrema a b c d) ⌝ }
 {
     give(
         of_extrema(cubics::find_cubic_extrema(a, b, c, d)),
@@ -151,8 +151,8 @@ pub extern "C" fn nz_find_cubic_inflections(
     count: &mut u32,
 ) -> u32
     ensures { λ r. ⌜ r ≡ cond (ltb (length (now (src .entry))) 8) 2 0 ⌝ }
-    ensures roots { λ _. ⌜ now (roots .exit) ≡ cond (ltb (length (now (src .entry))) 8) (now (roots .entry)) (sets (now (roots .entry)) 0 (listOf (ofInflections (inflectionsAnswer (now (src .entry)))))) ⌝ }
-    ensures count { λ _. ⌜ now (count .exit) ≡ cond (ltb (length (now (src .entry))) 8) (now (count .entry)) (countOf (ofInflections (inflectionsAnswer (now (src .entry))))) ⌝ }
+    ensures roots { λ _. ⌜ now (roots .exit) ≡ cond (ltb (length (now (src .entry))) 8) (now (roots .entry)) (sets (now (roots .entry)) 0 (listOf (cubicInflections (cubicOf (now (src .entry)))))) ⌝ }
+    ensures count { λ _. ⌜ now (count .exit) ≡ cond (ltb (length (now (src .entry))) 8) (now (count .entry)) (countOf (cubicInflections (cubicOf (now (src .entry))))) ⌝ }
 {
     if src.len() < 8 {
         return 2;

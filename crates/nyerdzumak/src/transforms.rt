@@ -1,11 +1,12 @@
 // The transforms' calls. A matrix is six lent numbers, in the order of `from_row`: sx, ky, kx, sy, tx, ty.
 ghost use mathlib.Core.Path.{_≡_};
+ghost use Rattle.curves.specs.Lent.{pointOf};
 ghost use Rattle.transform.specs.Inverse.{numberOf, refusalOf, invertOf};
 ghost use Rattle.transform.specs.Mapped.{mapPoint};
 ghost use Rattle.transform.specs.Product.{concatOf};
 ghost use Rattle.transform.specs.Row.{zero, one, rowOf, translateOf, scaleOf};
 ghost use Rattle.mapping.specs.Numbers as N;
-ghost use Rattle.nyerdzumak.specs.Lent.{pointNumbers, pointOf, matrixOf, rowNumbers};
+ghost use Rattle.nyerdzumak.specs.Lent.{pointNumbers, matrixOf, rowNumbers};
 ghost use Rattle.nyerdzumak.specs.Given.{inverseOr};
 use mapping::Mapping;
 use point::Point;
@@ -151,7 +152,7 @@ pub extern "C" fn nz_transform_invert(m: &[f32; 6], out: &mut [f32; 6]) -> u32
 #[no_mangle]
 pub extern "C" fn nz_transform_map_point(m: &[f32; 6], point: &mut [f32; 2]) -> u32
     ensures { λ r. ⌜ r ≡ 0 ⌝ }
-    ensures point { λ _. ⌜ now (point .exit) ≡ pointNumbers (mapPoint (matrixOf (now (m .entry))) (pointOf (now (point .entry)))) ⌝ }
+    ensures point { λ _. ⌜ now (point .exit) ≡ pointNumbers (mapPoint (matrixOf (now (m .entry))) (pointOf (now (point .entry)) 0)) ⌝ }
 {
     let p = matrix(m).map_point(Point {
         x: point[0],

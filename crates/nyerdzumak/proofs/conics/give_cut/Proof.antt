@@ -8,4 +8,4 @@ use Rattle.nyerdzumak.proofs.conics.give_cut.Tie as tie
 pub give-cut-spec : {M : Type 1} → statement M
 give-cut-spec = tie.close (tie.spec (λ c. search needs) (λ c. search needs) (λ c κs. tt)
     (λ c. rw (c .before .answer .given .1) (refl, (refl, refl)))
-    (λ c. rw (c .before .before .answer2 .given .1) (c .number-of .ensures, (refl, refl))))
+    (λ c. rw (c .before .before .answer2 .given .1) (c .number .ensures, (refl, refl))))
