@@ -11,7 +11,7 @@ use Rattle.quad_roots.specs.Roots.{rootsOf, discriminantOf, dividedOf, twoRoots
 use Rattle.conic.specs.Between.{test}
 use Rattle.conic.specs.Chop.{lineOf, linesAt, halvesAt, chopAt, chopBy}
 use Rattle.conic.specs.Mend.{nearerOf, orderedOf, mendedOf}
-use Rattle.point.specs.Point.{flat}
+use Rattle.point.specs.Numbers.{flat}
 use Rattle.conic_cut.specs.Cut.{cutPoints, allFinite, pinned, written, cutAnswer}
 use Rattle.checked_list.specs.Figures.{Figure, root, narrowed, roots, between, cut, refused, bits, rootBits, at, corner, Holds, AllHold, figures}
 

@@ -16,7 +16,7 @@ use Rattle.conic.specs.declared.Rule.the-variants.{Product, Exact}
 use Rattle.conic.specs.Between.{test}
 use Rattle.conic.specs.Chop.{chopBy}
 use Rattle.conic_cut.specs.declared.Cut.the-variants.{Quads}
-use Rattle.point.specs.Point.{flat}
+use Rattle.point.specs.Numbers.{flat}
 use Rattle.conic_cut.specs.Cut.{written, room, cutAnswer, numberOfCut}
 
 pub data Figure : Type 0 where

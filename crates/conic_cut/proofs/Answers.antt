@@ -19,7 +19,7 @@ use Rattle.conic.specs.Level.{ceiling}
 use Rattle.conic.proofs.Ways.{exact-rule}
 use Rattle.conic_cut.specs.declared.Cut.{Cut}
 use Rattle.conic_cut.specs.declared.Cut.the-variants.{Quads, Refused}
-use Rattle.point.specs.Point.{flat}
+use Rattle.point.specs.Numbers.{flat}
 use Rattle.conic_cut.specs.Cut.{written, room, cutAnswer, cutBuffer, numberOfCut, CutInto}
 use Rattle.conic_cut.specs.Order.{InOrder, OrderKept}
 use Rattle.conic_cut.proofs.Lists.{sets-whole}

@@ -11,7 +11,8 @@ use lib.ListN.{length, take, drop, replicate, getD, length-append, length-drop, 
 use lib.Seq.{sets, drop-cons}
 use lib.Ieee.{Float, nan}
 use Rattle.point.specs.declared.Point.{Point}
-use Rattle.point.specs.Point.{pointFinite, flat}
+use Rattle.point.specs.Numbers.{flat}
+use Rattle.point.specs.Point.{pointFinite}
 use Rattle.conic.specs.declared.Conic.{Conic}
 use Rattle.conic.specs.declared.Halves.{Halves}
 use Rattle.conic_cut.specs.Cut.{cutPoints, allFinite, plain, pinned, written, pointsOf}

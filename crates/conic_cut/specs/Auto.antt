@@ -13,7 +13,7 @@ use Rattle.conic.specs.Level.{quarter, conicFinite, levelOf}
 use Rattle.conic_cut.specs.declared.AutoConicToQuads.{AutoConicToQuads}
 use Rattle.conic_cut.specs.declared.Cut.{Cut}
 use Rattle.conic_cut.specs.declared.Cut.the-variants.{Quads, Refused}
-use Rattle.point.specs.Point.{flat}
+use Rattle.point.specs.Numbers.{flat}
 use Rattle.conic_cut.specs.Cut.{written, room, numberOfCut}
 
 unfoldable pub zeros : List Float

@@ -7,7 +7,8 @@ use lib.Dec.{ltb}
 use lib.ListN.{length, drop, replicate}
 use lib.Ieee.{Float}
 use Rattle.point.specs.declared.Point.{Point}
-use Rattle.point.specs.Point.{pointFinite, flat}
+use Rattle.point.specs.Numbers.{flat}
+use Rattle.point.specs.Point.{pointFinite}
 use Rattle.conic.specs.declared.Conic.{Conic}
 use Rattle.conic.specs.declared.Halves.{Halves}
 use Rattle.conic.specs.declared.Refusal.{Refusal}

@@ -15,7 +15,7 @@ use Rattle.conic.specs.declared.Rule.the-variants.{Exact}
 use Rattle.conic.specs.Between.{exactTest}
 use Rattle.conic.specs.Chop.{Axis, Y, along}
 use Rattle.conic.specs.Level.{ceiling}
-use Rattle.point.specs.Point.{flat}
+use Rattle.point.specs.Numbers.{flat}
 use Rattle.conic_cut.specs.Cut.{room}
 
 -- along k each point stands to the next as R says

@@ -5,7 +5,7 @@ ghost use Prim.Native.Nat.{_+_, _*_, _^_, _≤_};
 ghost use lib.ListN.{length, replicate};
 ghost use lib.Seq.{sets};
 ghost use Rattle.conic.specs.Chop.{conicFrom, pointFrom, chopBy};
-ghost use Rattle.point.specs.Point.{flat};
+ghost use Rattle.point.specs.Numbers.{flat};
 ghost use Rattle.conic_cut.specs.Ladder.{rungsOf, Rungs};
 ghost use Rattle.conic_cut.specs.Cut.{pointsOf, allFinite, cutPoints, pinned, written};
 use conic::Conic;

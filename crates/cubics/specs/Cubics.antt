@@ -14,9 +14,9 @@ use Rattle.cubics.specs.declared.Extrema.{Extrema}
 use Rattle.cubics.specs.declared.Extrema.the-variants as E
 use Rattle.cubics.specs.declared.Inflections.{Inflections}
 use Rattle.cubics.specs.declared.Inflections.the-variants as I
-use Rattle.point.specs.Point.{flat}
-use Rattle.curves.specs.Lent.{pointOf}
-use Rattle.curves.specs.Steps.{_⊕_, _⊖_, _⊗_, zero32, one32, two32, three32, times2, squareAt, same, minus, interp}
+use Rattle.point.specs.Numbers.{flat}
+use Rattle.quads.specs.Lent.{pointOf}
+use Rattle.quads.specs.Steps.{_⊕_, _⊖_, _⊗_, zero32, one32, two32, three32, times2, squareAt, same, minus, interp}
 
 abbrev pub cubicOf : List Float → Cubic
 cubicOf l = record { p0 = pointOf l 0; p1 = pointOf l 2; p2 = pointOf l 4; p3 = pointOf l 6 }

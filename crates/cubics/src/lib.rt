@@ -3,14 +3,14 @@
 ghost use mathlib.Core.Path.{_≡_};
 ghost use Prim.Native.Nat.{_≤_};
 ghost use lib.ListN.{length};
-ghost use Rattle.curves.specs.Answers.{numberOfPoint, evalNumber, evalAnswer, numberOfChop, chopNumber, chopAnswer, chopBuffer};
+ghost use Rattle.quads.specs.Answers.{numberOfPoint, evalNumber, evalAnswer, numberOfChop, chopNumber, chopAnswer, chopBuffer};
 ghost use Rattle.cubics.specs.Cubics as C;
-use curves::Chopped;
-use curves::PointAt;
-use curves::lent;
-use curves::steps;
 use point::Point;
 use quad_roots::Roots;
+use quads::Chopped;
+use quads::PointAt;
+use quads::lent;
+use quads::steps;
 
 pub struct Cubic {
     pub p0: Point,

@@ -1,3 +1,4 @@
 pub mod Absolute
+pub mod Formula
 pub mod Narrow
 pub mod Root

@@ -12,7 +12,7 @@ use Rattle.transform.specs.declared.Transform.{Transform}
 use Rattle.transform.specs.Row.{zero, one, rowOf}
 use Rattle.transform.specs.Kinds.{isIdentity, hasOnly}
 use Rattle.transform.specs.Mapped.{mapPoint}
-use Rattle.point.specs.Point.{flat}
+use Rattle.point.specs.Numbers.{flat}
 use Rattle.mapping.specs.Numbers.{mapPairs, refusalOf, numbersOf}
 
 module _ (f : Point → Point) where

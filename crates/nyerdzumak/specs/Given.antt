@@ -3,11 +3,11 @@ use Prim.Native.Nat.{ℕ}
 use mathlib.Core.List.{List}
 use lib.Ieee.{Float}
 use Rattle.point.specs.declared.Point.{Point}
-use Rattle.curves.specs.declared.PointAt.{PointAt}
-use Rattle.curves.specs.declared.PointAt.the-variants as P
-use Rattle.curves.specs.declared.quad.Curvature.{Curvature}
-use Rattle.curves.specs.declared.quad.Curvature.the-variants as C
-use Rattle.curves.specs.Answers.{evalAnswer}
+use Rattle.quads.specs.declared.PointAt.{PointAt}
+use Rattle.quads.specs.declared.PointAt.the-variants as P
+use Rattle.quads.specs.declared.quad.Curvature.{Curvature}
+use Rattle.quads.specs.declared.quad.Curvature.the-variants as C
+use Rattle.quads.specs.Answers.{evalAnswer}
 use Rattle.conic.specs.declared.Level.{Level}
 use Rattle.conic.specs.declared.Level.the-variants as L
 use Rattle.conic_cut.specs.declared.Cut.{Cut}

@@ -5,7 +5,7 @@ ghost use lib.Dec.{ltb};
 ghost use lib.ListN.{length};
 ghost use lib.Seq.{sets};
 ghost use Rattle.quad_roots.specs.Roots.{dividedOf, rootsOf};
-ghost use Rattle.curves.specs.Quads.{quadExtrema};
+ghost use Rattle.quads.specs.Quads.{quadExtrema};
 ghost use Rattle.cubics.specs.Cubics.{cubicOf, cubicExtrema, cubicInflections};
 ghost use Rattle.nyerdzumak.specs.Found.{listOf, countOf, atMostOne, ofExtrema, ofInflections};
 use cubics::Extrema;
@@ -98,7 +98,7 @@ pub extern "C" fn nz_find_quad_extrema(
     ensures root { λ _. ⌜ now (root .exit) ≡ sets (now (root .entry)) 0 (listOf (atMostOne (quadExtrema a b c))) ⌝ }
     ensures count { λ _. ⌜ now (count .exit) ≡ countOf (atMostOne (quadExtrema a b c)) ⌝ }
 {
-    give_one(curves::quad::find_quad_extrema(a, b, c), root, count)
+    give_one(quads::quad::find_quad_extrema(a, b, c), root, count)
 }
 
 fn of_extrema(found: Extrema) -> Roots

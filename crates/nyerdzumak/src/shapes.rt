@@ -1,12 +1,12 @@
 // The calls on quads and cubics: lent numbers, x and y of each point, 6 for a quad and 8 for a cubic.
 ghost use mathlib.Core.Path.{_≡_};
-ghost use Rattle.curves.specs.Answers.{numberOfPoint, numberOfChop, evalNumber, chopNumber, chopBuffer};
-ghost use Rattle.curves.specs.Quads.{quadOf, quadAt, quadTangent, quadChop, numberOfCurvature, curvatureAnswer, curvatureNumber};
+ghost use Rattle.quads.specs.Answers.{numberOfPoint, numberOfChop, evalNumber, chopNumber, chopBuffer};
+ghost use Rattle.quads.specs.Quads.{quadOf, quadAt, quadTangent, quadChop, numberOfCurvature, curvatureAnswer, curvatureNumber};
 ghost use Rattle.cubics.specs.Cubics.{cubicOf, cubicAt, cubicTangent, cubicChop};
 ghost use Rattle.nyerdzumak.specs.Given.{pointOr, evalNumbers, curvatureOr};
-use curves::Chopped;
-use curves::PointAt;
-use curves::quad::Curvature;
+use quads::Chopped;
+use quads::PointAt;
+use quads::quad::Curvature;
 
 // Stores a point, if there is one; and the answer's number.
 fn give(answer: PointAt, out: &mut [f32; 2]) -> u32
@@ -39,7 +39,7 @@ pub extern "C" fn nz_eval_quad_at(src: &[f32], t: f32, out: &mut [f32; 2]) -> u3
     ensures { λ r. ⌜ r ≡ evalNumber 6 t (now (src .entry)) ⌝ }
     ensures out { λ _. ⌜ now (out .exit) ≡ evalNumbers 6 t (now (src .entry)) (now (out .entry)) (quadAt (quadOf (now (src .entry))) t) ⌝ }
 {
-    give(curves::quad::eval_quad_at(src, t), out)
+    give(quads::quad::eval_quad_at(src, t), out)
 }
 
 // The tangent of a quad at t, as long as the derivative; at an end whose control point coincides with it, the chord.
@@ -48,7 +48,7 @@ pub extern "C" fn nz_eval_quad_tangent_at(src: &[f32], t: f32, out: &mut [f32; 2
     ensures { λ r. ⌜ r ≡ evalNumber 6 t (now (src .entry)) ⌝ }
     ensures out { λ _. ⌜ now (out .exit) ≡ evalNumbers 6 t (now (src .entry)) (now (out .entry)) (quadTangent (quadOf (now (src .entry))) t) ⌝ }
 {
-    give(curves::quad::eval_quad_tangent_at(src, t), out)
+    give(quads::quad::eval_quad_tangent_at(src, t), out)
 }
 
 // The point of a cubic at t.
@@ -76,7 +76,7 @@ pub extern "C" fn nz_chop_quad_at(src: &[f32], t: f32, dst: &mut [f32]) -> u32
     ensures { λ r. ⌜ r ≡ chopNumber 6 10 t (now (src .entry)) (now (dst .entry)) ⌝ }
     ensures buffer { λ _. ⌜ now (dst .exit) ≡ chopBuffer 6 10 t (now (src .entry)) (now (dst .entry)) (quadChop (quadOf (now (src .entry))) t) ⌝ }
 {
-    number_of(curves::quad::chop_quad_at(src, t, dst))
+    number_of(quads::quad::chop_quad_at(src, t, dst))
 }
 
 // Cuts a cubic at t, and stores the seven points of the two cubics.
@@ -109,5 +109,5 @@ pub extern "C" fn nz_find_quad_max_curvature(src: &[f32], t: &mut f32) -> u32
     ensures { λ r. ⌜ r ≡ curvatureNumber (now (src .entry)) ⌝ }
     ensures t { λ _. ⌜ now (t .exit) ≡ curvatureOr (now (t .entry)) (curvatureAnswer (now (src .entry))) ⌝ }
 {
-    give_curvature(curves::quad::find_quad_max_curvature(src), t)
+    give_curvature(quads::quad::find_quad_max_curvature(src), t)
 }

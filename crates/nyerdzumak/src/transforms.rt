@@ -1,6 +1,6 @@
 // The transforms' calls. A matrix is six lent numbers, in the order of `from_row`: sx, ky, kx, sy, tx, ty.
 ghost use mathlib.Core.Path.{_≡_};
-ghost use Rattle.curves.specs.Lent.{pointOf};
+ghost use Rattle.quads.specs.Lent.{pointOf};
 ghost use Rattle.transform.specs.Inverse.{numberOf, refusalOf, invertOf};
 ghost use Rattle.transform.specs.Mapped.{mapPoint};
 ghost use Rattle.transform.specs.Product.{concatOf};

@@ -1,7 +1,7 @@
 // A point, by value. Carried over from `lib.rs` of tiny-skia-path 0.12.0.
 ghost use mathlib.Core.Path.{_≡_};
-ghost use lib.Ieee.{binary32, ofBits};
-ghost use Rattle.point.specs.Point.{pointFinite};
+ghost use Rattle.float_laws.specs.Formula.{zero32};
+ghost use Rattle.point.specs.Point.{pointFinite, pointFrom};
 
 pub struct Point {
     pub x: f32,
@@ -11,14 +11,14 @@ pub struct Point {
 impl Point {
     // The point with these coordinates.
     pub fn from_xy(x: f32, y: f32) -> Self
-        ensures { λ r. ⌜ (r .x ≡ x) × (r .y ≡ y) ⌝ }
+        ensures { λ r. ⌜ r ≡ pointFrom x y ⌝ }
     {
         Point { x, y }
     }
 
     // The point at 0, 0.
     pub fn zero() -> Self
-        ensures { λ r. ⌜ (r .x ≡ ofBits binary32 0) × (r .y ≡ ofBits binary32 0) ⌝ }
+        ensures { λ r. ⌜ r ≡ pointFrom zero32 zero32 ⌝ }
     {
         Point { x: 0.0, y: 0.0 }
     }

@@ -4,7 +4,7 @@ use borrow.Author.Needs.{needs}
 use borrow.Author.Tests.{lt-ltb, le-ltb}
 use lib.ListN.{length}
 use lib.Ieee.{Float}
-use Rattle.point.specs.Point.{flat}
+use Rattle.point.specs.Numbers.{flat}
 use Rattle.cubics.specs.declared.Cubic.{Cubic}
 use Rattle.cubics.specs.Cubics.{cubicChop}
 use Rattle.quad_roots.proofs.Asks.{nothing}

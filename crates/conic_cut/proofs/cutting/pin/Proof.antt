@@ -6,7 +6,7 @@ use borrow.Author.Needs.{needs}
 use lib.Seq.{sets}
 use lib.ListN.{length, replicate}
 use Rattle.conic_cut.proofs.Stores.{pin-more, pin-done}
-use Rattle.point.specs.Point.{flat}
+use Rattle.point.specs.Numbers.{flat}
 use Rattle.conic_cut.proofs.cutting.pin.Statement.{statement}
 use Rattle.conic_cut.proofs.cutting.pin.Tie as tie
 

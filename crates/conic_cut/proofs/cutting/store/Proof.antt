@@ -4,7 +4,7 @@ use mathlib.Core.List.{List}
 use borrow.Author.Needs.{needs}
 use lib.Seq.{sets}
 use Rattle.point.specs.declared.Point.{Point}
-use Rattle.point.specs.Point.{flat}
+use Rattle.point.specs.Numbers.{flat}
 use Rattle.conic.specs.Chop.{chopBy}
 use Rattle.conic_cut.proofs.Order.{joined}
 use Rattle.conic_cut.proofs.Stores.{ends-pinned}

@@ -1,5 +1,5 @@
 -- `cubics::Cubic::chop_at2` meets its contract. Assumes nothing.
-use Rattle.point.specs.Point.{flat}
+use Rattle.point.specs.Numbers.{flat}
 use Rattle.cubics.specs.Cubics.{cubicChop}
 use Rattle.quad_roots.proofs.Asks.{nothing}
 use Rattle.cubics.proofs.Cubic.chop_at2.Statement.{statement}
