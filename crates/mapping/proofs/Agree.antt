@@ -1,36 +1,26 @@
 -- What follows from the contracts of mapping: numbers and points agree, the identity moves nothing, and a refusal changes nothing. Assumes nothing.
-use mathlib.Core.Path.{_≡_, refl, ap}
+use mathlib.Core.Path.{_≡_, refl, ap, _∙_}
 use mathlib.Core.Bool.{Bool, true, false, cond}
 use mathlib.Core.List.{List, [], _∷_, map}
-use Prim.Native.Nat.{_%_}
+use Prim.Native.Nat.{ℕ, _%_}
 use native.Mathlib.Omega.{arith}
+use borrow.Author.Tests.{eqb-true}
 use lib.Dec.{eqb}
 use lib.ListN.{length}
 use lib.Ieee.{Float, ofBits, eq, ne}
+use Rattle.float_laws.specs.Formula.{zero32, one32}
 use Rattle.point.specs.declared.Point.{Point}
+use Rattle.point.specs.Numbers.{flat, pointsOf}
 use Rattle.transform.specs.declared.Transform.{Transform}
-use Rattle.transform.specs.Row.{zero, one, rowOf}
+use Rattle.transform.specs.Row.{rowOf}
 use Rattle.transform.specs.Kinds.{isIdentity, hasOnly}
 use Rattle.transform.specs.Mapped.{mapPoint}
-use Rattle.point.specs.Numbers.{flat}
-use Rattle.mapping.specs.Numbers.{mapPairs, refusalOf, numbersOf}
+use Rattle.mapping.specs.Numbers.{mappingNumber, mappedNumbers}
 
-module _ (f : Point → Point) where
-  pairs-flat : (ps : List Point) → mapPairs f (flat ps) ≡ flat (map f ps)
-  unfolding mapPairs flat
-  pairs-flat [] = refl
-  pairs-flat (p ∷ ps) = ap (λ (l : List Float). f p .x ∷ f p .y ∷ l) (pairs-flat ps)
-
-  module _ (keeps : (p : Point) → f p ≡ p) where
-    map-keeps : (ps : List Point) → map f ps ≡ ps
-    map-keeps [] = refl
-    map-keeps (p ∷ ps) = rw (keeps p, map-keeps ps)
-
-    pairs-keep : (l : List Float) → mapPairs f l ≡ l
-    unfolding mapPairs
-    pairs-keep [] = refl
-    pairs-keep (x ∷ []) = refl
-    pairs-keep (x ∷ y ∷ l) = rw (keeps (record { x = x; y = y }), pairs-keep l)
+points-flat : (ps : List Point) → pointsOf (flat ps) ≡ ps
+unfolding flat pointsOf
+points-flat [] = refl
+points-flat (p ∷ ps) = ap (λ (l : List Point). p ∷ l) (points-flat ps)
 
 flat-even : (ps : List Point) → length (flat ps) % 2 ≡ 0
 unfolding flat
@@ -38,12 +28,26 @@ flat-even [] = refl
 flat-even (p ∷ ps) = omega (arith, flat-even ps)
 
 -- mapping the numbers of points gives the numbers of the mapped points
-pub numbers-as-points : (t : Transform) (ps : List Point) → numbersOf (refusalOf (flat ps)) t (flat ps) ≡ flat (map (mapPoint t) ps)
-numbers-as-points t ps = rw (flat-even ps) (pairs-flat (mapPoint t) ps)
+pub numbers-as-points : (t : Transform) (ps : List Point) → mappedNumbers t (flat ps) ≡ flat (map (mapPoint t) ps)
+numbers-as-points t ps = rw (flat-even ps, points-flat ps)
 
 -- a refusal changes nothing
-pub refusal-keeps : (t : Transform) (l : List Float) → refusalOf l ≡ 9 → numbersOf (refusalOf l) t l ≡ l
-refusal-keeps t l refused = rw refused
+pub refusal-keeps : (t : Transform) (l : List Float) → mappingNumber l ≡ 9 → mappedNumbers t l ≡ l
+refusal-keeps t l refused = go (eqb (length l % 2) 0) refused
+  where
+    go : (b : Bool) → _≡_ {A = ℕ} (cond b 0 9) 9 → cond b (flat (map (mapPoint t) (pointsOf l))) l ≡ l
+    go true e = absurd (omega (arith, e))
+    go false e = refl
+
+map-keeps : (f : Point → Point) → ((p : Point) → f p ≡ p) → (ps : List Point) → map f ps ≡ ps
+map-keeps f keeps [] = refl
+map-keeps f keeps (p ∷ ps) = rw (keeps p, map-keeps f keeps ps)
+
+flat-points : (l : List Float) → length l % 2 ≡ 0 → flat (pointsOf l) ≡ l
+unfolding flat pointsOf
+flat-points [] h = refl
+flat-points (x ∷ []) h = absurd (omega (arith, h))
+flat-points (x ∷ y ∷ l) h = ap (λ (m : List Float). x ∷ y ∷ m) (flat-points l (omega (arith, h)))
 
 module _ (t : Transform) (identity : isIdentity t ≡ true) where
   point-stays : (p : Point) → mapPoint t p ≡ p
@@ -54,13 +58,13 @@ module _ (t : Transform) (identity : isIdentity t ≡ true) where
   pub points-stay : (ps : List Point) → map (mapPoint t) ps ≡ ps
   points-stay ps = map-keeps (mapPoint t) point-stays ps
 
-  pub numbers-stay : (l : List Float) → numbersOf (refusalOf l) t l ≡ l
-  numbers-stay l = go (eqb (refusalOf l) 0)
+  pub numbers-stay : (l : List Float) → mappedNumbers t l ≡ l
+  numbers-stay l = go (eqb (length l % 2) 0) refl
     where
-      go : (b : Bool) → cond b (mapPairs (mapPoint t) l) l ≡ l
-      go true = pairs-keep (mapPoint t) point-stays l
-      go false = refl
+      go : (b : Bool) → eqb (length l % 2) 0 ≡ b → cond b (flat (map (mapPoint t) (pointsOf l))) l ≡ l
+      go true e = rw (points-stay (pointsOf l)) (flat-points l (eqb-true _ _ e))
+      go false e = refl
 
-pub the-identity : isIdentity (rowOf one zero zero one zero zero) ≡ true
+pub the-identity : isIdentity (rowOf one32 zero32 zero32 one32 zero32 zero32) ≡ true
 unfolding hasOnly ne eq ofBits
 the-identity = refl

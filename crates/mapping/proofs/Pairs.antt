@@ -1,18 +1,24 @@
--- A list of numbers that is mapped in place, two at a time: `mapFrom i l` is l with f applied to each two numbers from i on. Assumes nothing.
+-- A list of numbers that is mapped in place, two at a time: `mapPairs l` is l with f applied to each two numbers, and `mapFrom i l` from i on.
+-- Of whole points, that is the numbers of the mapped points (`whole-points`). Assumes nothing.
 use mathlib.Core.Path.{_≡_, refl, ap}
-use mathlib.Core.List.{List, [], _∷_}
-use Prim.Native.Nat.{ℕ, zero, suc, _+_, _≤_, _<_}
+use mathlib.Core.List.{List, [], _∷_, map}
+use Prim.Native.Nat.{ℕ, zero, suc, _+_, _%_, _≤_, _<_}
 use native.Mathlib.Numerals.{add-one}
 use native.Mathlib.Omega.{arith}
 use native.Mathlib.Nat.{not-suc-le-zero, le-of-suc-le-suc}
 use lib.ListN.{length, getD, set}
 use lib.Ieee.{Float}
 use Rattle.point.specs.declared.Point.{Point}
-use Rattle.mapping.specs.Numbers.{mapPairs}
+use Rattle.point.specs.Numbers.{flat, pointsOf}
 
 module _ (f : Point → Point) where
+  unfoldable pub mapPairs : List Float → List Float
+  mapPairs [] = []
+  mapPairs (x ∷ []) = x ∷ []
+  mapPairs (x ∷ y ∷ rest) = let p = f (record { x = x; y = y }) in p .x ∷ p .y ∷ mapPairs rest
+
   abbrev pub mapFrom : ℕ → List Float → List Float
-  mapFrom zero l = mapPairs f l
+  mapFrom zero l = mapPairs l
   mapFrom (suc i) [] = []
   mapFrom (suc i) (x ∷ l) = x ∷ mapFrom i l
 
@@ -39,3 +45,11 @@ module _ (f : Point → Point) where
   all zero (x ∷ y ∷ l) h = absurd (not-suc-le-zero (le-of-suc-le-suc h))
   all (suc i) [] h = refl
   all (suc i) (x ∷ l) h = ap (λ (m : List Float). x ∷ m) (all i l (le-of-suc-le-suc h))
+
+  pub whole-points : (l : List Float) → length l % 2 ≡ 0 → mapPairs l ≡ flat (map f (pointsOf l))
+  unfolding mapPairs flat pointsOf
+  whole-points [] h = refl
+  whole-points (x ∷ []) h = absurd (omega (arith, h))
+  whole-points (x ∷ y ∷ l) h =
+      let p = f (record { x = x; y = y }) in
+      ap (λ (m : List Float). p .x ∷ p .y ∷ m) (whole-points l (omega (arith, h)))

@@ -2,7 +2,7 @@
 ghost use mathlib.Core.Path.{_≡_};
 ghost use mathlib.Core.List.{map};
 ghost use Rattle.transform.specs.Mapped.{mapPoint};
-ghost use Rattle.mapping.specs.Numbers.{numberOf, refusalOf, mappingOf, numbersOf};
+ghost use Rattle.mapping.specs.Numbers.{numberOfMapping, mappingAnswer, mappingNumber, mappedNumbers};
 use point::Point;
 use transform::Transform;
 
@@ -13,11 +13,23 @@ pub enum Mapping {
     OddLength,
 }
 
+impl Mapping {
+    // Its number in the table of answers.
+    pub fn number(self) -> u32
+        ensures { λ r. ⌜ r ≡ numberOfMapping self ⌝ }
+    {
+        match self {
+            Mapping::Mapped => 0,
+            Mapping::OddLength => 9,
+        }
+    }
+}
+
 // Maps each point of a buffer that holds x, y, x, y. A buffer of odd length is left as it is.
 pub fn map_numbers(ts: Transform, numbers: &mut [f32]) -> Mapping
-    ensures answer { λ r. ⌜ r ≡ mappingOf (refusalOf (now (numbers .entry))) ⌝ }
-    ensures number { λ r. ⌜ numberOf r ≡ refusalOf (now (numbers .entry)) ⌝ }
-    ensures buffer { λ _. ⌜ now (numbers .exit) ≡ numbersOf (refusalOf (now (numbers .entry))) ts (now (numbers .entry)) ⌝ }
+    ensures answer { λ r. ⌜ r ≡ mappingAnswer (now (numbers .entry)) ⌝ }
+    ensures number { λ r. ⌜ numberOfMapping r ≡ mappingNumber (now (numbers .entry)) ⌝ }
+    ensures buffer { λ _. ⌜ now (numbers .exit) ≡ mappedNumbers ts (now (numbers .entry)) ⌝ }
 {
     if numbers.len() % 2 != 0 {
         return Mapping::OddLength;

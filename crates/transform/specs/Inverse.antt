@@ -1,38 +1,45 @@
 -- What `invert` answers. Definitions only.
 use mathlib.Core.Bool.{Bool, cond}
+use mathlib.Core.List.{List, []}
 use Prim.Native.Nat.{ℕ}
-use lib.Ieee.{Float, binary32, binary64, ofBits, sub, mul, div, neg}
+use lib.Ieee.{Float, binary32, ofBits, neg}
+use Rattle.float_laws.specs.Formula.{_⊗_, _⊘_, _⊟_, _⊠_, _⧄_, zero32, one32, one64}
 use Rattle.float_laws.specs.Narrow.{narrowOf}
 use Rattle.transform.specs.declared.Transform.{Transform}
 use Rattle.transform.specs.declared.invert.Inversion.{Inversion}
 use Rattle.transform.specs.declared.invert.Inversion.the-variants.{Inverted, NearlySingular, NotFinite}
 use Rattle.transform.specs.declared.invert.InvDeterminant.{InvDeterminant}
 use Rattle.transform.specs.declared.invert.InvDeterminant.the-variants.{Is, NearlyZero}
-use Rattle.transform.specs.Row.{zero, one, rowOf, translateOf}
+use Rattle.transform.specs.Row.{rowOf, rowNumbers, translateOf}
 use Rattle.transform.specs.Kinds.{isIdentity, isScaleTranslate, hasScale, hasSkew, isFinite, nearlyZero}
 
--- the paper's number of each answer
-abbrev pub numberOf : Inversion → ℕ
-numberOf (Inverted t) = 0
-numberOf NearlySingular = 6
-numberOf NotFinite = 7
+-- its number in docs/RULES.md, "Answer numbers", and its values: the inverse in the order of `from_row`
+abbrev pub numberOfInversion : Inversion → ℕ
+numberOfInversion (Inverted t) = 0
+numberOfInversion NearlySingular = 6
+numberOfInversion NotFinite = 7
+
+abbrev pub valuesOfInversion : Inversion → List Float
+valuesOfInversion (Inverted t) = rowNumbers t
+valuesOfInversion NearlySingular = []
+valuesOfInversion NotFinite = []
 
 -- ---- without skew
 unfoldable pub unskewedInverse : Transform → Transform
 unskewedInverse t =
-    let inv-x = div binary32 one (t .sx) in
-    let inv-y = div binary32 one (t .sy) in
+    let inv-x = one32 ⊘ t .sx in
+    let inv-y = one32 ⊘ t .sy in
     cond (hasScale t)
-    (rowOf inv-x zero zero inv-y (mul binary32 (neg (t .tx)) inv-x) (mul binary32 (neg (t .ty)) inv-y))
+    (rowOf inv-x zero32 zero32 inv-y (neg (t .tx) ⊗ inv-x) (neg (t .ty) ⊗ inv-y))
     (translateOf (neg (t .tx)) (neg (t .ty)))
 
 -- ---- with skew, in f64
 abbrev pub dcrossOf : Float → Float → Float → Float → Float
-dcrossOf a b c d = sub binary64 (mul binary64 a b) (mul binary64 c d)
+dcrossOf a b c d = a ⊠ b ⊟ c ⊠ d
 
 -- narrowed once
 abbrev pub dscaleOf : Float → Float → Float
-dscaleOf x scale = narrowOf (mul binary64 x scale)
+dscaleOf x scale = narrowOf (x ⊠ scale)
 
 -- 2^-36, the cube of the crate's 2^-12
 abbrev pub nearlyNothing : Float
@@ -46,7 +53,7 @@ abbrev pub nearlySingular : Transform → Bool
 nearlySingular t = nearlyZero (narrowOf (determinant t)) nearlyNothing
 
 abbrev pub overDeterminant : Transform → Float
-overDeterminant t = div binary64 (ofBits binary64 0x3ff0_0000_0000_0000) (determinant t)
+overDeterminant t = one64 ⧄ determinant t
 
 unfoldable pub invDeterminant : Transform → InvDeterminant
 invDeterminant t = cond (nearlySingular t) NearlyZero (Is (overDeterminant t))

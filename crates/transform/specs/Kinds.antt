@@ -1,25 +1,25 @@
 -- What kind of transform it is. Definitions only.
 use mathlib.Core.Bool.{Bool, true, false, not, _&&_, _||_, Bool·beq}
-use lib.Ieee.{Float, binary32, ofBits, add, mul, ne, le}
+use lib.Ieee.{Float, binary32, ofBits, ne, le}
 use lib.Ieee.Scale.{finite}
 use Rattle.float_laws.specs.Absolute.{absOf}
+use Rattle.float_laws.specs.Formula.{_⊕_, _⊗_, zero32, one32}
 use Rattle.float_laws.specs.Root.{rootOf}
 use Rattle.transform.specs.declared.Transform.{Transform}
 use Rattle.transform.specs.declared.kinds.Scale.{Scale}
-use Rattle.transform.specs.Row.{zero, one}
 
 -- ---- the three parts: one of two numbers is not what it is in the identity
 abbrev pub differs : Float → Float → Float → Bool
 differs a b nothing = ne a nothing || ne b nothing
 
 abbrev pub hasScale : Transform → Bool
-hasScale t = differs (t .sx) (t .sy) one
+hasScale t = differs (t .sx) (t .sy) one32
 
 abbrev pub hasSkew : Transform → Bool
-hasSkew t = differs (t .kx) (t .ky) zero
+hasSkew t = differs (t .kx) (t .ky) zero32
 
 abbrev pub hasTranslate : Transform → Bool
-hasTranslate t = differs (t .tx) (t .ty) zero
+hasTranslate t = differs (t .tx) (t .ty) zero32
 
 -- ---- the kinds: it has these parts and no others
 unfoldable pub hasOnly : Bool → Bool → Bool → Transform → Bool
@@ -46,8 +46,8 @@ isFinite t = finite (t .sx) && finite (t .ky) && finite (t .kx) && finite (t .sy
 
 unfoldable pub scalesOf : Transform → Scale
 scalesOf t = record {
-  x = rootOf binary32 (add binary32 (mul binary32 (t .sx) (t .sx)) (mul binary32 (t .kx) (t .kx)));
-  y = rootOf binary32 (add binary32 (mul binary32 (t .ky) (t .ky)) (mul binary32 (t .sy) (t .sy)));
+  x = rootOf binary32 (t .sx ⊗ t .sx ⊕ t .kx ⊗ t .kx);
+  y = rootOf binary32 (t .ky ⊗ t .ky ⊕ t .sy ⊗ t .sy);
 }
 
 abbrev pub nearlyZero : Float → Float → Bool

@@ -1,6 +1,6 @@
 // The inverse of a transform. Carried over from `transform.rs` of tiny-skia-path 0.12.0.
 ghost use mathlib.Core.Path.{_≡_};
-ghost use Rattle.transform.specs.Inverse.{numberOf, refusalOf, invertOf, unskewedInverse, invDeterminant, skewedInverse, skewedInversion, checkedOf, dcrossOf, dscaleOf};
+ghost use Rattle.transform.specs.Inverse.{numberOfInversion, refusalOf, invertOf, unskewedInverse, invDeterminant, skewedInverse, skewedInversion, checkedOf, dcrossOf, dscaleOf};
 use super::Transform;
 use super::scalar::is_nearly_zero_within_tolerance;
 use float_ground::narrow;
@@ -13,6 +13,19 @@ pub enum Inversion {
     NearlySingular,
     // The inverse of a skewed transform has an entry that is not finite.
     NotFinite,
+}
+
+impl Inversion {
+    // Its number in the table of answers.
+    pub fn number(self) -> u32
+        ensures { λ r. ⌜ r ≡ numberOfInversion self ⌝ }
+    {
+        match self {
+            Inversion::Inverted(_) => 0,
+            Inversion::NearlySingular => 6,
+            Inversion::NotFinite => 7,
+        }
+    }
 }
 
 // One over the determinant, unless the determinant is nearly zero.
@@ -28,7 +41,7 @@ impl Transform {
     // The transform that undoes this one. Without skew it is not checked, and may have entries that are not finite.
     pub fn invert(self) -> Inversion
         ensures answer { λ r. ⌜ r ≡ invertOf self ⌝ }
-        ensures number { λ r. ⌜ numberOf r ≡ refusalOf self ⌝ }
+        ensures number { λ r. ⌜ numberOfInversion r ≡ refusalOf self ⌝ }
     {
         if self.is_identity() {
             return Inversion::Inverted(self);

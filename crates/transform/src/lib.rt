@@ -1,6 +1,6 @@
 // A transform of the plane: six numbers, by value. Carried over from `transform.rs` of tiny-skia-path 0.12.0.
 ghost use mathlib.Core.Path.{_≡_};
-ghost use Rattle.transform.specs.Row.{zero, one, rowOf, translateOf, scaleOf};
+ghost use Rattle.transform.specs.Row.{rowOf, identityRow, translateOf, scaleOf, skewOf};
 
 mod concat;
 mod invert;
@@ -34,7 +34,7 @@ impl Transform {
 
     // The transform that moves nothing.
     pub fn identity() -> Self
-        ensures { λ r. ⌜ r ≡ rowOf one zero zero one zero zero ⌝ }
+        ensures { λ r. ⌜ r ≡ identityRow ⌝ }
     {
         Transform::IDENTITY
     }
@@ -69,7 +69,7 @@ impl Transform {
 
     // Skews by kx across and by ky up.
     pub fn from_skew(kx: f32, ky: f32) -> Self
-        ensures { λ r. ⌜ r ≡ rowOf one ky kx one zero zero ⌝ }
+        ensures { λ r. ⌜ r ≡ skewOf kx ky ⌝ }
     {
         Transform::from_row(1.0, ky, kx, 1.0, 0.0, 0.0)
     }

@@ -7,13 +7,13 @@ use native.Mathlib.Omega.{arith}
 use lib.Ieee.{nan}
 use lib.ListN.{length, length-set}
 use Rattle.transform.specs.Mapped.{mapPoint}
-use Rattle.mapping.specs.Numbers.{mapPairs}
-use Rattle.mapping.proofs.Pairs.{mapFrom, next, all}
+use Rattle.mapping.proofs.Pairs.{mapPairs, mapFrom, next, all, whole-points}
 use Rattle.mapping.proofs.map_numbers.Statement.{statement}
 use Rattle.mapping.proofs.map_numbers.Tie as tie
 
 abbrev Inv-loop : tie.InvT-loop
-Inv-loop ts numbers₀ i₀ numbers i = (mapFrom (mapPoint ts) i numbers ≡ mapPairs (mapPoint ts) numbers₀) × (length numbers ≡ length numbers₀) × (i ≤ length numbers)
+Inv-loop ts numbers₀ i₀ numbers i =
+    (mapFrom (mapPoint ts) i numbers ≡ mapPairs (mapPoint ts) numbers₀) × (length numbers ≡ length numbers₀) × (i ≤ length numbers)
 
 abbrev μ-loop : tie.MeasureT-loop
 μ-loop ts numbers₀ i₀ numbers i = length numbers - i
@@ -29,7 +29,8 @@ loop-again c =
 returns-2 : tie.Need-returns-2 Inv-loop μ-loop
 returns-2 c =
     let at = c .before .loop in
-    rw (eq-eqb _ _ (c .before .before .if1 .left)) (refl, (refl, sym (all _ (at .i) (at .numbers) (omega arith)) ∙ at .inv .0))
+    let even = c .before .before .if1 .left in
+    rw (eq-eqb _ _ even) (refl, (refl, sym (all _ (at .i) (at .numbers) (omega arith)) ∙ at .inv .0 ∙ whole-points _ _ even))
 
 pub map-numbers-spec : {M : Type 1} → statement M
 map-numbers-spec =
