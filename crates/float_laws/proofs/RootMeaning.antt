@@ -158,46 +158,7 @@ module _ (f : Format) (m : ℕ) (e : ℤ) (F : T (fits f (fin false (suc m) e)))
             (counts-lt (2 ^ low f) (num r) (den r) (num y) (den y) (c * 2 ^ k) (o .m * 2 ^ o .i) L-pos er (o .value) (lt→cross r y (positive-counted r r-positive) p l)));
       }
 
-weaken : (f : Format) (x r : Float) → StrictRoot f x r → NearestRoot f x r
-weaken f x r s = record { above-zero = s .above-zero; from-below = λ y F p l. le-of-lt (s .from-below y F p l); from-above = λ y F p l. le-of-lt (s .from-above y F p l) }
-
--- every value that fits has the root that `rootOf` computes
-pub nearest-root : (f : Format) (x : Float) → T (fits f x) → Root f x (rootOf f x)
-unfolding Root rootOf
-nearest-root f nan F = refl
-nearest-root f (inf true) F = refl
-nearest-root f (inf false) F = refl
-nearest-root f (fin s zero e) F = refl
-nearest-root f (fin true (suc m) e) F = refl
-nearest-root f (fin false (suc m) e) F = weaken f (fin false (suc m) e) (rootOf f (fin false (suc m) e)) (strict-root f m e F)
-
--- what equals `rootOf` is the root, and has its meaning
-pub both : (f : Format) (x r : Float) → T (fits f x) → r ≡ rootOf f x → (r ≡ rootOf f x) × Root f x r
-both f x r F e = (e, subst (Root f x) (sym e) (nearest-root f x F))
-
--- ---- and no other
-
-sums-comm : (y r : Float) → sums y r ≡ sums r y
-sums-comm y r = ap (λ (a : ℕ). a * a) (add-comm (num y * den r) (num r * den y))
-
-scale-comm : (y r : Float) → scale y r ≡ scale r y
-scale-comm y r = ap (λ (a : ℕ). a * a) (mul-comm (den y) (den r))
-
--- two positive values of which neither is below the other
-same-positive : (f : Format) (r s : Float) → T (fits f r) → T (fits f s) → T (positive r) → T (positive s) → (T (lt r s) → ⊥) → (T (lt s r) → ⊥) → r ≡ s
-same-positive f r s F G p q a b =
-    value-unique f r s false (num r) (den r) F G (den-pos r) (own-value r p)
-    (same-value s false (num s) (den s) (num r) (den r) (den-pos s) (le-antisymm (meet (λ h. a (cross→lt r s p q h))) (meet (λ h. b (cross→lt s r q p h)))) (own-value s q))
-  where
-    meet : {u v : ℕ} → (u < v → ⊥) → v ≤ u
-    meet {u} {v} h = elim (decLe v u) [ yes l ↦ l | no g ↦ absurd (h (lt-of-not-le g)) ]
-
-alone : (f : Format) (x r s : Float) → T (fits f r) → T (fits f s) → StrictRoot f x r → NearestRoot f x s → s ≡ r
-alone f x r s F G R S =
-    same-positive f s r G F (S .above-zero) (R .above-zero)
-    (λ l. lt-irrefl (sums s r * den x) (lt-of-lt-of-le (R .from-below s G (positive-counted s (S .above-zero)) l) (rw (sums-comm s r, scale-comm s r) (S .from-above r F (positive-counted r (R .above-zero)) l))))
-    (λ l. lt-irrefl (sums s r * den x) (lt-of-le-of-lt (rw (sums-comm s r, scale-comm s r) (S .from-below r F (positive-counted r (R .above-zero)) l)) (R .from-above s G (positive-counted s (S .above-zero)) l)))
-
+-- the root is a value of the format
 units-fits : (f : Format) (s : Bool) (q k : ℕ) → q ≤ 2 ^ prec f → T (fits f (units f s q k))
 unfolding units
 units-fits f s q k h = go (ltb (q * 2 ^ k) (2 ^ (low f + suc (emax f)))) (ltb→lt (q * 2 ^ k) (2 ^ (low f + suc (emax f))))
@@ -227,16 +188,74 @@ root-fits f (fin s zero e) F = F
 root-fits f (fin true (suc m) e) F = nan-fits f
 root-fits f (fin false (suc m) e) F = rootAt-fits f (suc m * up e * (2 ^ low f * 2 ^ low f) / down e)
 
--- whatever has the meaning of x's root is the one that `rootOf` computes
-pub root-alone : (f : Format) (x r : Float) → T (fits f x) → T (fits f r) → Root f x r → r ≡ rootOf f x
+weaken : (f : Format) (x r : Float) → T (fits f r) → StrictRoot f x r → NearestRoot f x r
+weaken f x r G s =
+    record {
+      held = G;
+      above-zero = s .above-zero;
+      from-below = λ y F p l. le-of-lt (s .from-below y F p l);
+      from-above = λ y F p l. le-of-lt (s .from-above y F p l);
+    }
+
+-- every value that fits has the root that `rootOf` computes
+pub nearest-root : (f : Format) (x : Float) → T (fits f x) → Root f x (rootOf f x)
 unfolding Root rootOf
-root-alone f nan r F G h = h
-root-alone f (inf true) r F G h = h
-root-alone f (inf false) r F G h = h
-root-alone f (fin s zero e) r F G h = h
-root-alone f (fin true (suc m) e) r F G h = h
-root-alone f (fin false (suc m) e) r F G h = alone f (fin false (suc m) e) (rootOf f (fin false (suc m) e)) r (root-fits f (fin false (suc m) e) F) G (strict-root f m e F) h
+nearest-root f nan F = refl
+nearest-root f (inf true) F = refl
+nearest-root f (inf false) F = refl
+nearest-root f (fin s zero e) F = refl
+nearest-root f (fin true (suc m) e) F = refl
+nearest-root f (fin false (suc m) e) F =
+    let x = fin false (suc m) e in
+    weaken f x (rootOf f x) (root-fits f x F) (strict-root f m e F)
+
+-- what equals `rootOf` is the root, and has its meaning
+pub both : (f : Format) (x r : Float) → T (fits f x) → r ≡ rootOf f x → (r ≡ rootOf f x) × Root f x r
+both f x r F e = (e, subst (Root f x) (sym e) (nearest-root f x F))
+
+-- ---- and no other
+
+sums-comm : (y r : Float) → sums y r ≡ sums r y
+sums-comm y r = ap (λ (a : ℕ). a * a) (add-comm (num y * den r) (num r * den y))
+
+scale-comm : (y r : Float) → scale y r ≡ scale r y
+scale-comm y r = ap (λ (a : ℕ). a * a) (mul-comm (den y) (den r))
+
+-- two positive values of which neither is below the other
+same-positive : (f : Format) (r s : Float) → T (fits f r) → T (fits f s) → T (positive r) → T (positive s) → (T (lt r s) → ⊥) → (T (lt s r) → ⊥) → r ≡ s
+same-positive f r s F G p q a b =
+    value-unique f r s false (num r) (den r) F G (den-pos r) (own-value r p)
+    (same-value s false (num s) (den s) (num r) (den r) (den-pos s) (le-antisymm (meet (λ h. a (cross→lt r s p q h))) (meet (λ h. b (cross→lt s r q p h)))) (own-value s q))
+  where
+    meet : {u v : ℕ} → (u < v → ⊥) → v ≤ u
+    meet {u} {v} h = elim (decLe v u) [ yes l ↦ l | no g ↦ absurd (h (lt-of-not-le g)) ]
+
+alone : (f : Format) (x r s : Float) → T (fits f r) → StrictRoot f x r → NearestRoot f x s → s ≡ r
+alone f x r s F R S =
+    same-positive f s r (S .held) F (S .above-zero) (R .above-zero)
+    (λ l. lt-irrefl (sums s r * den x)
+    (lt-of-lt-of-le (R .from-below s (S .held) s-counted l) (rw (sums-comm s r, scale-comm s r) (S .from-above r F r-counted l))))
+    (λ l. lt-irrefl (sums s r * den x)
+    (lt-of-le-of-lt (rw (sums-comm s r, scale-comm s r) (S .from-below r F r-counted l)) (R .from-above s (S .held) s-counted l)))
+  where
+    r-counted : T (counted r)
+    r-counted = positive-counted r (R .above-zero)
+
+    s-counted : T (counted s)
+    s-counted = positive-counted s (S .above-zero)
+
+-- whatever has the meaning of x's root is the one that `rootOf` computes
+pub root-alone : (f : Format) (x r : Float) → T (fits f x) → Root f x r → r ≡ rootOf f x
+unfolding Root rootOf
+root-alone f nan r F h = h
+root-alone f (inf true) r F h = h
+root-alone f (inf false) r F h = h
+root-alone f (fin s zero e) r F h = h
+root-alone f (fin true (suc m) e) r F h = h
+root-alone f (fin false (suc m) e) r F h =
+    let x = fin false (suc m) e in
+    alone f x (rootOf f x) r (root-fits f x F) (strict-root f m e F) h
 
 -- so two values that both have it are equal
-pub root-unique : (f : Format) (x r s : Float) → T (fits f x) → T (fits f r) → T (fits f s) → Root f x r → Root f x s → r ≡ s
-root-unique f x r s F G H p q = root-alone f x r F G p ∙ sym (root-alone f x s F H q)
+pub root-unique : (f : Format) (x r s : Float) → T (fits f x) → Root f x r → Root f x s → r ≡ s
+root-unique f x r s F p q = root-alone f x r F p ∙ sym (root-alone f x s F q)

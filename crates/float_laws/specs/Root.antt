@@ -20,8 +20,9 @@ sums y r = (num y * den r + num r * den y) * (num y * den r + num r * den y)
 abbrev pub scale : Float → Float → ℕ
 scale y r = den y * den r * (den y * den r)
 
--- Of every other value y that the format holds: the middle of y and r is at most √x where y is below r, and at least √x where y is above it. So √x is no nearer to y than to r.
+-- r is a value that the format holds, and of every other such value y: the middle of y and r is at most √x where y is below r, and at least √x where y is above it. So √x is no nearer to y than to r.
 pub record NearestRoot (f : Format) (x r : Float) : Type 0 where
+  pub held : T (fits f r)
   pub above-zero : T (positive r)
   pub from-below : (y : Float) → T (fits f y) → T (counted y) → T (lt y r) → sums y r * den x ≤ 4 * num x * scale y r
   pub from-above : (y : Float) → T (fits f y) → T (counted y) → T (lt r y) → 4 * num x * scale y r ≤ sums y r * den x
