@@ -13,7 +13,8 @@ use Rattle.conic.specs.Chop.{lineOf, linesAt, halvesAt, chopAt, chopBy}
 use Rattle.conic.specs.Mend.{nearerOf, orderedOf, mendedOf}
 use Rattle.point.specs.Numbers.{flat}
 use Rattle.conic_cut.specs.Cut.{cutPoints, allFinite, pinned, written, cutAnswer}
-use Rattle.checked_list.specs.Figures.{Figure, root, narrowed, roots, between, cut, refused, bits, rootBits, at, corner, Holds, AllHold, figures}
+use Rattle.checked_list.specs.Figures.{Figure, root, narrowed, roots, between, cut, refused}
+use Rattle.checked_list.specs.Figures.{bits, rootBits, at, corner, Holds, AllHold, figures}
 
 -- what is left to compute of a figure: a root is nearest where it is the computed one
 abbrev Computed : Figure → Type 0
@@ -45,7 +46,10 @@ abbrev _&_ : {A B : Type 0} → A → B → A × B
 a & b = (a, b)
 
 all-computed : AllComputed figures
-unfolding bits rootBits at corner rootOf roundTo rootsOf discriminantOf dividedOf twoRoots collected qOf test chopBy chopAt halvesAt linesAt lineOf mendedOf orderedOf nearerOf absOf cutPoints allFinite pinned written flat cutAnswer ofBits toBits fits add sub mul div lt le
+unfolding
+    bits rootBits at corner rootOf roundTo rootsOf discriminantOf dividedOf twoRoots collected qOf test
+    chopBy chopAt halvesAt linesAt lineOf mendedOf orderedOf nearerOf absOf cutPoints allFinite pinned written flat cutAnswer
+    ofBits toBits fits add sub mul div lt le
 all-computed =
     (tt & refl) & (tt & refl) & (tt & refl) & refl & refl & refl & refl & refl & refl & refl & refl & refl & refl & refl
     & (refl & refl) & (refl & refl) & (refl & refl) & (refl & refl) & refl & refl & tt

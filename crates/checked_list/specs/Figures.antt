@@ -1,12 +1,14 @@
--- The figures that the scope document marks for the checked list, floats by their patterns, and what it is for one to hold. Definitions only.
+-- The figures that docs/RULES.md, "Figures", marks for the checked list, floats by their patterns, and what it is for one to hold. Definitions only.
 use Prim.Native.Nat.{ℕ}
 use mathlib.Core.Path.{_≡_}
 use mathlib.Core.Bool.{Bool, true, false}
 use mathlib.Core.List.{List, [], _∷_}
 use lib.Ieee.{Float, binary32, binary64, ofBits, toBits}
+use Rattle.float_laws.specs.Formula.{one32}
 use Rattle.float_laws.specs.Narrow.{narrowOf}
 use Rattle.float_laws.specs.Root.{Root}
 use Rattle.point.specs.declared.Point.{Point}
+use Rattle.point.specs.Point.{pointFrom}
 use Rattle.quad_roots.specs.declared.Roots.{Roots}
 use Rattle.quad_roots.specs.declared.Roots.the-variants.{None, One, Two}
 use Rattle.quad_roots.specs.Roots.{rootsOf}
@@ -14,7 +16,7 @@ use Rattle.conic.specs.declared.Conic.{Conic}
 use Rattle.conic.specs.declared.Rule.{Rule}
 use Rattle.conic.specs.declared.Rule.the-variants.{Product, Exact}
 use Rattle.conic.specs.Between.{test}
-use Rattle.conic.specs.Chop.{chopBy}
+use Rattle.conic.specs.Chop.{conicFrom, chopBy}
 use Rattle.conic_cut.specs.declared.Cut.the-variants.{Quads}
 use Rattle.point.specs.Numbers.{flat}
 use Rattle.conic_cut.specs.Cut.{written, room, cutAnswer, numberOfCut}
@@ -30,7 +32,7 @@ pub data Figure : Type 0 where
   between : Rule → ℕ → ℕ → ℕ → Bool → Figure
   -- the conic below cut by the rule at a level: how many quads, and the numbers of the points
   cut : Rule → ℕ → ℕ → List ℕ → Figure
-  -- a level, how many numbers there is room for, and the number of the refusal
+  -- a level, how many numbers there is room for, and the number of the refusal in docs/RULES.md, "Answer numbers"
   refused : ℕ → ℕ → ℕ → Figure
 
 unfoldable pub bits : List Float → List ℕ
@@ -43,11 +45,11 @@ rootBits (One r) = bits (r ∷ [])
 rootBits (Two r s) = bits (r ∷ s ∷ [])
 
 unfoldable pub at : ℕ → ℕ → Point
-at x y = record { x = ofBits binary32 x; y = ofBits binary32 y }
+at x y = pointFrom (ofBits binary32 x) (ofBits binary32 y)
 
 -- (0,0), (4,0), (4,4) at weight 1
 unfoldable pub corner : Conic
-corner = record { p0 = at 0 0; p1 = at 0x4080_0000 0; p2 = at 0x4080_0000 0x4080_0000; weight = ofBits binary32 0x3f80_0000 }
+corner = conicFrom (at 0 0) (at 0x4080_0000 0) (at 0x4080_0000 0x4080_0000) one32
 
 -- a root by its meaning: no other value of the format is nearer
 abbrev pub Holds : Figure → Type 0

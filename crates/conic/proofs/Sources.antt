@@ -1,4 +1,4 @@
--- What the answer of `Conic::from_points` says of the source, and its number. Assumes nothing.
+-- What the answer of `Conic::from_points` says of the source, its number and its values. Assumes nothing.
 use mathlib.Core.Path.{_≡_, refl, ap, _∙_}
 use mathlib.Core.Bool.{Bool, true, false, cond}
 use mathlib.Core.List.{List}
@@ -12,7 +12,7 @@ use Rattle.conic.specs.declared.Refusal.{Refusal}
 use Rattle.conic.specs.declared.Refusal.the-variants.{BufferTooShort}
 use Rattle.conic.specs.declared.FromPoints.{FromPoints}
 use Rattle.conic.specs.declared.FromPoints.the-variants.{Made, Refused}
-use Rattle.conic.specs.Refusal.{numberOfFromPoints}
+use Rattle.conic.specs.Refusal.{numberOfFromPoints, valuesOfFromPoints}
 use Rattle.conic.specs.Source.{conicOf, sourceAnswer, Taken}
 
 by-made : (b : Bool) (d c : Conic) → cond b (Refused BufferTooShort) (Made d) ≡ Made c → (b ≡ false) × (c ≡ d)
@@ -31,10 +31,15 @@ pub was-refused : (l : List Float) (w : Float) (r : Refusal) → sourceAnswer l 
 unfolding sourceAnswer
 was-refused l w r e = by-refused (ltb (length l) 6) (conicOf l w) r e
 
-number-is : (short : Bool) (c : Conic) → numberOfFromPoints (cond short (Refused BufferTooShort) (Made c)) ≡ cond short 2 0
-number-is true c = refl
-number-is false c = refl
+of-answer : {A : Type 0} (of : FromPoints → A) (short : Bool) (c : Conic)
+    → of (cond short (Refused BufferTooShort) (Made c)) ≡ cond short (of (Refused BufferTooShort)) (of (Made c))
+of-answer of true c = refl
+of-answer of false c = refl
 
 pub taken : {l : List Float} {w : Float} {r : FromPoints} → r ≡ sourceAnswer l w → Taken l w r
 unfolding sourceAnswer
-taken {l} {w} e = record { answer = e; number = ap numberOfFromPoints e ∙ number-is (ltb (length l) 6) (conicOf l w) }
+taken {l} {w} e = record {
+  answer = e;
+  number = ap numberOfFromPoints e ∙ of-answer numberOfFromPoints (ltb (length l) 6) (conicOf l w);
+  values = ap valuesOfFromPoints e ∙ of-answer valuesOfFromPoints (ltb (length l) 6) (conicOf l w);
+}

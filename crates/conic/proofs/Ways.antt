@@ -3,11 +3,12 @@ use mathlib.Core.Path.{_≡_, refl, subst, subst⁻¹, _∙_}
 use mathlib.Core.Logic.{_⊎_, inl, inr, ⊎-elim}
 use mathlib.Core.Bool.{Bool, true, false, cond, _&&_}
 use lib.Dec.{T}
-use lib.Ieee.{Float, binary32, le, lt, sub}
+use lib.Ieee.{Float, le, lt}
 use lib.Ieee.Fits.{and-l, and-r, and-i}
 use lib.Ieee.Scale.{finite}
 use Rattle.float_laws.proofs.Order.{le-trans-float, le-self, finite-between, or-case, or-left, or-right}
 use Rattle.float_laws.specs.Absolute.{absOf}
+use Rattle.float_laws.specs.Formula.{_⊖_}
 use Rattle.conic.specs.declared.Conic.{Conic}
 use Rattle.conic.specs.declared.Rule.{Rule}
 use Rattle.conic.specs.declared.Rule.the-variants.{Exact}
@@ -97,7 +98,7 @@ module _ (W : Way) where
 
   nearer-within : (a m c : Float) → T (finite a) → T (finite c) → R a c → Within a c (nearerOf a m c)
   unfolding nearerOf
-  nearer-within a m c p q h = by-test (Within a c) (lt (absOf (sub binary32 m a)) (absOf (sub binary32 m c))) a c (λ _. (W .self a p, h)) (h, W .self c q)
+  nearer-within a m c p q h = by-test (Within a c) (lt (absOf (m ⊖ a)) (absOf (m ⊖ c))) a c (λ _. (W .self a p, h)) (h, W .self c q)
 
   -- a correction leaves what is within, and else takes a place that is
   kept-within : (u : Rule) → ((a b c : Float) → test u a b c ≡ exactTest a b c) → (a x c y : Float) → R a c → Within a c y → Within a c (cond (test u a x c) x y)

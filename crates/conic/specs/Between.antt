@@ -1,12 +1,13 @@
--- The two between tests: whether b lies between a and c. Definitions only.
+-- The two between tests of b against a and c. Definitions only.
 use mathlib.Core.Bool.{Bool, _&&_, _||_}
-use lib.Ieee.{Float, binary32, sub, mul, le, ofBits}
+use lib.Ieee.{Float, le}
+use Rattle.float_laws.specs.Formula.{_⊖_, _⊗_, zero32}
 use Rattle.conic.specs.declared.Rule.{Rule}
 use Rattle.conic.specs.declared.Rule.the-variants.{Product, Exact}
 
 -- the crate's: (a − b)(c − b) ≤ 0
 abbrev pub productTest : Float → Float → Float → Bool
-productTest a b c = le (mul binary32 (sub binary32 a b) (sub binary32 c b)) (ofBits binary32 0)
+productTest a b c = le ((a ⊖ b) ⊗ (c ⊖ b)) zero32
 
 -- ours: a ≤ b ≤ c or a ≥ b ≥ c
 abbrev pub exactTest : Float → Float → Float → Bool

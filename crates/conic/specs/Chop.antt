@@ -1,19 +1,17 @@
 -- What a chop makes of a conic: the formulas, operation by operation, for one axis at a time. Definitions only.
 use mathlib.Core.Bool.{Bool, true, false, cond}
-use lib.Ieee.{Float, binary32, binary64, add, mul, div, ofBits}
-use lib.Ieee.Scale.{finite}
+use lib.Ieee.{Float, binary32}
+use Rattle.float_laws.specs.Formula.{_⊕_, _⊗_, _⊘_, _⊞_, _⊠_, _⧄_, half32, one32, half64, one64, two64}
 use Rattle.float_laws.specs.Narrow.{narrowOf}
 use Rattle.float_laws.specs.Root.{rootOf}
 use Rattle.point.specs.declared.Point.{Point}
+use Rattle.point.specs.Point.{pointFrom, pointFinite}
 use Rattle.conic.specs.declared.Conic.{Conic}
 use Rattle.conic.specs.declared.Halves.{Halves}
 use Rattle.conic.specs.declared.Rule.{Rule}
 use Rattle.conic.specs.declared.chopping.Line.{Line}
 use Rattle.conic.specs.declared.chopping.Lines.{Lines}
 use Rattle.conic.specs.Mend.{mendedOf}
-
-abbrev pub pointFrom : Float → Float → Point
-pointFrom x y = record { x = x; y = y }
 
 abbrev pub conicFrom : Point → Point → Point → Float → Conic
 conicFrom a b c w = record { p0 = a; p1 = b; p2 = c; weight = w }
@@ -29,39 +27,24 @@ abbrev pub on : Axis → Lines → Line
 on X l = l .x
 on Y l = l .y
 
-abbrev pub one : Float
-one = ofBits binary32 0x3f80_0000
-
-abbrev pub half : Float
-half = ofBits binary32 0x3f00_0000
-
-abbrev pub one64 : Float
-one64 = ofBits binary64 0x3ff0_0000_0000_0000
-
-abbrev pub two64 : Float
-two64 = ofBits binary64 0x4000_0000_0000_0000
-
-abbrev pub half64 : Float
-half64 = ofBits binary64 0x3fe0_0000_0000_0000
-
 -- ---- one axis: start a, control b, end c; weight w, and its scale s
 abbrev pub scaleOf : Float → Float
-scaleOf w = div binary32 one (add binary32 one w)
+scaleOf w = one32 ⊘ (one32 ⊕ w)
 
 unfoldable pub lineOf : Float → Float → Float → Float → Float → Line
 lineOf a b c w s =
-    let wb = mul binary32 w b in
+    let wb = w ⊗ b in
     record {
-      left = mul binary32 (add binary32 a wb) s;
-      middle = mul binary32 (mul binary32 (add binary32 (add binary32 a (add binary32 wb wb)) c) s) half;
-      right = mul binary32 (add binary32 wb c) s;
+      left = (a ⊕ wb) ⊗ s;
+      middle = (a ⊕ (wb ⊕ wb) ⊕ c) ⊗ s ⊗ half32;
+      right = (wb ⊕ c) ⊗ s;
     }
 
 -- the middle through f64, narrowed once
 unfoldable pub wideMiddle : Float → Float → Float → Float → Float
 wideMiddle a b c w =
-    let scaleHalf = mul binary64 (div binary64 one64 (add binary64 one64 w)) half64 in
-    narrowOf (mul binary64 (add binary64 (add binary64 a (mul binary64 (mul binary64 w two64) b)) c) scaleHalf)
+    let scaleHalf = one64 ⧄ (one64 ⊞ w) ⊠ half64 in
+    narrowOf ((a ⊞ w ⊠ two64 ⊠ b ⊞ c) ⊠ scaleHalf)
 
 -- ---- both axes, at the scale s
 abbrev pub plainLine : Float → Axis → Conic → Line
@@ -73,10 +56,10 @@ withMiddle l m = record { left = l .left; middle = m; right = l .right }
 abbrev pub wideLine : Float → Axis → Conic → Line
 wideLine s k c = withMiddle (plainLine s k c) (wideMiddle (along k (c .p0)) (along k (c .p1)) (along k (c .p2)) (c .weight))
 
--- both middles through f64 where the product of the plain ones is not finite
+-- both middles through f64 where the point of the plain ones does not pass the crate's finite test
 unfoldable pub linesAt : Float → Conic → Lines
 linesAt s c =
-    cond (finite (mul binary32 (plainLine s X c .middle) (plainLine s Y c .middle)))
+    cond (pointFinite (pointFrom (plainLine s X c .middle) (plainLine s Y c .middle)))
     (record { x = plainLine s X c; y = plainLine s Y c })
     (record { x = wideLine s X c; y = wideLine s Y c })
 
@@ -84,7 +67,7 @@ abbrev pub linesOf : Conic → Lines
 linesOf c = linesAt (scaleOf (c .weight)) c
 
 abbrev pub weightOf : Float → Float
-weightOf w = rootOf binary32 (add binary32 half (mul binary32 w half))
+weightOf w = rootOf binary32 (half32 ⊕ w ⊗ half32)
 
 -- the halves that these lines make, of weight w
 unfoldable pub halvesAt : Float → Conic → Lines → Halves

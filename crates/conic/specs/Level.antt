@@ -2,8 +2,10 @@
 use Prim.Native.Nat.{ℕ, zero, suc}
 use mathlib.Core.Path.{_≡_}
 use mathlib.Core.Bool.{Bool, not, cond, _&&_, _||_}
-use lib.Ieee.{Float, binary32, add, sub, mul, div, lt, le, ofBits}
+use mathlib.Core.List.{[], _∷_}
+use lib.Ieee.{Float, binary32, lt, le}
 use lib.Ieee.Scale.{finite}
+use Rattle.float_laws.specs.Formula.{_⊕_, _⊖_, _⊗_, _⊘_, zero32, quarter32, one32, two32, four32}
 use Rattle.float_laws.specs.Root.{rootOf}
 use Rattle.point.specs.Point.{pointFinite}
 use Rattle.conic.specs.declared.Conic.{Conic}
@@ -11,37 +13,27 @@ use Rattle.conic.specs.declared.Level.{Level}
 use Rattle.conic.specs.declared.Level.the-variants.{Pow2, Refused}
 use Rattle.conic.specs.declared.Refusal.{Refusal}
 use Rattle.conic.specs.declared.Refusal.the-variants.{BufferTooShort, PointNotFinite, BadTolerance}
-use Rattle.conic.specs.Chop.{one}
-use Rattle.conic.specs.Refusal.{numberOf, numberOfLevel}
+use Rattle.conic.specs.Refusal.{numberOf, valuesOf, numberOfLevel, valuesOfLevel}
 
 abbrev pub ceiling : ℕ
 ceiling = 4
 
-abbrev pub two : Float
-two = ofBits binary32 0x4000_0000
-
-abbrev pub four : Float
-four = ofBits binary32 0x4080_0000
-
-abbrev pub quarter : Float
-quarter = ofBits binary32 0x3e80_0000
-
 -- (a − 2b) + c
 abbrev pub bendOf : Float → Float → Float → Float
-bendOf a b c = add binary32 (sub binary32 a (mul binary32 two b)) c
+bendOf a b c = a ⊖ two32 ⊗ b ⊕ c
 
 unfoldable pub errorOf : Conic → Float
 errorOf c =
-    let a = sub binary32 (c .weight) one in
-    let k = div binary32 a (mul binary32 four (add binary32 two a)) in
-    let x = mul binary32 k (bendOf (c .p0 .x) (c .p1 .x) (c .p2 .x)) in
-    let y = mul binary32 k (bendOf (c .p0 .y) (c .p1 .y) (c .p2 .y)) in
-    rootOf binary32 (add binary32 (mul binary32 x x) (mul binary32 y y))
+    let a = c .weight ⊖ one32 in
+    let k = a ⊘ (four32 ⊗ (two32 ⊕ a)) in
+    let x = k ⊗ bendOf (c .p0 .x) (c .p1 .x) (c .p2 .x) in
+    let y = k ⊗ bendOf (c .p0 .y) (c .p1 .y) (c .p2 .y) in
+    rootOf binary32 (x ⊗ x ⊕ y ⊗ y)
 
 -- how often the error e is quartered until it is at most t, n times at most; a NaN never gets there
 unfoldable pub quarteringsOf : ℕ → Float → Float → ℕ
 quarteringsOf zero e t = 0
-quarteringsOf (suc n) e t = cond (le e t) 0 (suc (quarteringsOf n (mul binary32 e quarter) t))
+quarteringsOf (suc n) e t = cond (le e t) 0 (suc (quarteringsOf n (e ⊗ quarter32) t))
 
 abbrev pub atLeastOne : ℕ → ℕ
 atLeastOne zero = 1
@@ -51,7 +43,7 @@ unfoldable pub levelOf : Conic → Float → ℕ
 levelOf c t = atLeastOne (quarteringsOf ceiling (errorOf c) t)
 
 abbrev pub badTolerance : Float → Bool
-badTolerance t = lt t (ofBits binary32 0) || not (finite t)
+badTolerance t = lt t zero32 || not (finite t)
 
 abbrev pub conicFinite : Conic → Bool
 conicFinite c = (pointFinite (c .p0) && pointFinite (c .p1)) && pointFinite (c .p2)
@@ -66,7 +58,8 @@ refuseLevel short c t refused well =
 unfoldable pub levelAnswer : Bool → Conic → Float → Level
 levelAnswer short c t = refuseLevel short c t Refused (Pow2 (levelOf c t))
 
--- the answer, and its number in the scope document
+-- the answer, its number and its values; no two answers are it (`proofs/Unique`)
 pub record Chosen (short : Bool) (c : Conic) (t : Float) (r : Level) : Type 0 where
   pub answer : r ≡ levelAnswer short c t
   pub number : numberOfLevel r ≡ refuseLevel short c t numberOf 0
+  pub values : valuesOfLevel r ≡ refuseLevel short c t valuesOf (levelOf c t ∷ [])

@@ -1,14 +1,15 @@
 -- The corrections after a chop, along one axis: from the start a to the end c the line l must not turn back. Definitions only.
 use mathlib.Core.Bool.{cond}
-use lib.Ieee.{Float, binary32, sub, lt}
+use lib.Ieee.{Float, lt}
 use Rattle.float_laws.specs.Absolute.{absOf}
+use Rattle.float_laws.specs.Formula.{_⊖_}
 use Rattle.conic.specs.declared.Rule.{Rule}
 use Rattle.conic.specs.declared.chopping.Line.{Line}
 use Rattle.conic.specs.Between.{test}
 
 -- the end that m is nearer to; the end c on a tie or NaN
 unfoldable pub nearerOf : Float → Float → Float → Float
-nearerOf a m c = cond (lt (absOf (sub binary32 m a)) (absOf (sub binary32 m c))) a c
+nearerOf a m c = cond (lt (absOf (m ⊖ a)) (absOf (m ⊖ c))) a c
 
 abbrev pub middleOf : Rule → Float → Float → Float → Float
 middleOf u a m c = cond (test u a m c) m (nearerOf a m c)

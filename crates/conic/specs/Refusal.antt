@@ -1,5 +1,7 @@
--- The number that the scope document gives each answer. Definitions only.
+-- Each answer's number in docs/RULES.md, "Answer numbers", and its values; a refusal has none. Definitions only.
 use Prim.Native.Nat.{ℕ}
+use mathlib.Core.List.{List, [], _∷_}
+use Rattle.conic.specs.declared.Conic.{Conic}
 use Rattle.conic.specs.declared.Refusal.{Refusal}
 use Rattle.conic.specs.declared.Refusal.the-variants.{LevelTooHigh, BufferTooShort, PointNotFinite, BadTolerance}
 use Rattle.conic.specs.declared.FromPoints.{FromPoints}
@@ -13,10 +15,23 @@ numberOf BufferTooShort = 2
 numberOf PointNotFinite = 3
 numberOf BadTolerance = 4
 
+abbrev pub valuesOf : {A : Type 0} → Refusal → List A
+valuesOf r = []
+
+-- the conic that was made
 abbrev pub numberOfFromPoints : FromPoints → ℕ
 numberOfFromPoints (F.Made c) = 0
 numberOfFromPoints (F.Refused r) = numberOf r
 
+abbrev pub valuesOfFromPoints : FromPoints → List Conic
+valuesOfFromPoints (F.Made c) = c ∷ []
+valuesOfFromPoints (F.Refused r) = valuesOf r
+
+-- the level that was chosen
 abbrev pub numberOfLevel : Level → ℕ
 numberOfLevel (L.Pow2 n) = 0
 numberOfLevel (L.Refused r) = numberOf r
+
+abbrev pub valuesOfLevel : Level → List ℕ
+valuesOfLevel (L.Pow2 n) = n ∷ []
+valuesOfLevel (L.Refused r) = valuesOf r

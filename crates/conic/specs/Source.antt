@@ -1,29 +1,31 @@
 -- A conic in a lent source: six numbers, x and y of each point. Definitions only.
-use Prim.Native.Nat.{ℕ}
 use mathlib.Core.Path.{_≡_}
-use mathlib.Core.Bool.{cond}
-use mathlib.Core.List.{List}
+use mathlib.Core.Bool.{Bool, cond}
+use mathlib.Core.List.{List, [], _∷_}
 use lib.Dec.{ltb}
-use lib.ListN.{length, getD}
-use lib.Ieee.{Float, nan}
-use Rattle.point.specs.declared.Point.{Point}
+use lib.ListN.{length}
+use lib.Ieee.{Float}
+use Rattle.point.specs.Numbers.{pointAt}
 use Rattle.conic.specs.declared.Conic.{Conic}
+use Rattle.conic.specs.declared.Refusal.{Refusal}
 use Rattle.conic.specs.declared.Refusal.the-variants.{BufferTooShort}
 use Rattle.conic.specs.declared.FromPoints.{FromPoints}
 use Rattle.conic.specs.declared.FromPoints.the-variants.{Made, Refused}
-use Rattle.conic.specs.Chop.{pointFrom, conicFrom}
-use Rattle.conic.specs.Refusal.{numberOfFromPoints}
-
-abbrev pub pointAt : List Float → ℕ → ℕ → Point
-pointAt l i j = pointFrom (getD l i nan) (getD l j nan)
+use Rattle.conic.specs.Chop.{conicFrom}
+use Rattle.conic.specs.Refusal.{numberOf, valuesOf, numberOfFromPoints, valuesOfFromPoints}
 
 unfoldable pub conicOf : List Float → Float → Conic
-conicOf l w = conicFrom (pointAt l 0 1) (pointAt l 2 3) (pointAt l 4 5) w
+conicOf l w = conicFrom (pointAt l 0) (pointAt l 2) (pointAt l 4) w
+
+-- 2 where the source is short, and else what is well
+abbrev pub refuseSource : {A : Type 0} → List Float → (Refusal → A) → A → A
+refuseSource l refused well = cond (ltb (length l) 6) (refused BufferTooShort) well
 
 unfoldable pub sourceAnswer : List Float → Float → FromPoints
-sourceAnswer l w = cond (ltb (length l) 6) (Refused BufferTooShort) (Made (conicOf l w))
+sourceAnswer l w = refuseSource l Refused (Made (conicOf l w))
 
--- the answer, and its number in the scope document
+-- the answer, its number and its values; no two answers are it (`proofs/Unique`)
 pub record Taken (l : List Float) (w : Float) (r : FromPoints) : Type 0 where
   pub answer : r ≡ sourceAnswer l w
-  pub number : numberOfFromPoints r ≡ cond (ltb (length l) 6) 2 0
+  pub number : numberOfFromPoints r ≡ refuseSource l numberOf 0
+  pub values : valuesOfFromPoints r ≡ refuseSource l valuesOf (conicOf l w ∷ [])

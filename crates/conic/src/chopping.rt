@@ -1,6 +1,7 @@
 // The formulas of a chop, one axis at a time. Carried over from `path_geometry.rs` of tiny-skia-path 0.12.0.
 ghost use mathlib.Core.Path.{_≡_};
-ghost use Rattle.conic.specs.Chop.{conicFrom, pointFrom, lineOf, withMiddle, wideMiddle, linesAt, halvesAt};
+ghost use Rattle.conic.specs.Chop.{conicFrom, lineOf, withMiddle, wideMiddle, linesAt, halvesAt};
+ghost use Rattle.point.specs.Point.{pointFrom};
 use crate::Conic;
 use crate::Halves;
 use point::Point;

@@ -7,7 +7,7 @@ ghost use lib.ListN.{length};
 ghost use Rattle.conic.specs.Between.{productTest, exactTest, test};
 ghost use Rattle.conic.specs.Chop.{conicFrom, scaleOf, weightOf, chopOf, chopAt, chopBy};
 ghost use Rattle.conic.specs.Level.{Chosen};
-ghost use Rattle.conic.specs.Refusal.{numberOf};
+ghost use Rattle.conic.specs.Refusal.{numberOf, numberOfFromPoints, numberOfLevel};
 ghost use Rattle.conic.specs.Source.{conicOf, Taken};
 use point::Point;
 
@@ -44,7 +44,7 @@ pub enum Refusal {
 }
 
 impl Refusal {
-    // Its number in the table of refusals.
+    // Its number in docs/RULES.md, "Answer numbers".
     pub fn number(self) -> u32
         ensures { λ r. ⌜ r ≡ numberOf self ⌝ }
     {
@@ -63,10 +63,34 @@ pub enum FromPoints {
     Refused(Refusal),
 }
 
+impl FromPoints {
+    // Its number in docs/RULES.md, "Answer numbers".
+    pub fn number(self) -> u32
+        ensures { λ r. ⌜ r ≡ numberOfFromPoints self ⌝ }
+    {
+        match self {
+            FromPoints::Made(_) => 0,
+            FromPoints::Refused(r) => r.number(),
+        }
+    }
+}
+
 // The level at which a conic is to be cut: two to the power of it is the number of quads.
 pub enum Level {
     Pow2(u32),
     Refused(Refusal),
+}
+
+impl Level {
+    // Its number in docs/RULES.md, "Answer numbers".
+    pub fn number(self) -> u32
+        ensures { λ r. ⌜ r ≡ numberOfLevel self ⌝ }
+    {
+        match self {
+            Level::Pow2(_) => 0,
+            Level::Refused(r) => r.number(),
+        }
+    }
 }
 
 // The crate's test. It fails where the product overflows to the wrong side, and passes where it underflows.

@@ -20,21 +20,28 @@ use Rattle.conic.proofs.Ways.{exact-rule}
 use Rattle.conic_cut.specs.declared.Cut.{Cut}
 use Rattle.conic_cut.specs.declared.Cut.the-variants.{Quads, Refused}
 use Rattle.point.specs.Numbers.{flat}
-use Rattle.conic_cut.specs.Cut.{written, room, cutAnswer, cutBuffer, numberOfCut, CutInto}
+use Rattle.conic_cut.specs.Cut.{written, room, cutAnswer, cutBuffer, numberOfCut, valuesOfCut, CutInto}
 use Rattle.conic_cut.specs.Order.{InOrder, OrderKept}
 use Rattle.conic_cut.proofs.Lists.{sets-whole}
 use Rattle.conic_cut.proofs.Order.{cut-in-order}
 use Rattle.conic_cut.proofs.Stores.{flat-length, written-length}
 
-number-is : (deep short : Bool) (q : ℕ) → numberOfCut (cond deep (Refused LevelTooHigh) (cond short (Refused BufferTooShort) (Quads q))) ≡ cond deep 1 (cond short 2 0)
-number-is true short q = refl
-number-is false true q = refl
-number-is false false q = refl
+of-answer : {A : Type 0} (of : Cut → A) (deep short : Bool) (q : ℕ)
+    → of (cond deep (Refused LevelTooHigh) (cond short (Refused BufferTooShort) (Quads q)))
+    ≡ cond deep (of (Refused LevelTooHigh)) (cond short (of (Refused BufferTooShort)) (of (Quads q)))
+of-answer of true short q = refl
+of-answer of false true q = refl
+of-answer of false false q = refl
 
 pub cut-into : {f : Conic → Halves} {n : ℕ} {c : Conic} {short : Bool} {l : List Float} {r : Cut} {l₁ : List Float}
     → r ≡ cutAnswer n (length l) short → l₁ ≡ cutBuffer f n c short l → CutInto f n c short l r l₁
 unfolding cutAnswer
-cut-into {n = n} {short = short} {l = l} e b = record { answer = e; number = ap numberOfCut e ∙ number-is (ltb ceiling n) (ltb (length l) (room n) || short) (2 ^ n); buffer = b }
+cut-into {n = n} {short = short} {l = l} e b = record {
+  answer = e;
+  number = ap numberOfCut e ∙ of-answer numberOfCut (ltb ceiling n) (ltb (length l) (room n) || short) (2 ^ n);
+  values = ap valuesOfCut e ∙ of-answer valuesOfCut (ltb ceiling n) (ltb (length l) (room n) || short) (2 ^ n);
+  buffer = b;
+}
 
 module _ (f : Conic → Halves) (n : ℕ) (c : Conic) (short : Bool) (l : List Float) where
   pub too-deep : ceiling < n → CutInto f n c short l (Refused LevelTooHigh) l

@@ -11,11 +11,11 @@ use lib.ListN.{length, take, drop, replicate, getD, length-append, length-drop, 
 use lib.Seq.{sets, drop-cons}
 use lib.Ieee.{Float, nan}
 use Rattle.point.specs.declared.Point.{Point}
-use Rattle.point.specs.Numbers.{flat}
+use Rattle.point.specs.Numbers.{flat, pointsOf, pointAt}
 use Rattle.point.specs.Point.{pointFinite}
 use Rattle.conic.specs.declared.Conic.{Conic}
 use Rattle.conic.specs.declared.Halves.{Halves}
-use Rattle.conic_cut.specs.Cut.{cutPoints, allFinite, plain, pinned, written, pointsOf}
+use Rattle.conic_cut.specs.Cut.{cutPoints, allFinite, plain, pinned, written}
 use Rattle.conic_cut.proofs.Lists.{sets-then, sets-amid, sets-take}
 
 -- ---- powers and lengths
@@ -98,7 +98,7 @@ pin-done p n i next l h = let e : n - i ≡ 0 = omega arith in rw e
 
 -- ---- the finite test over the numbers from i on
 pub all-more : (s : List Float) (i : ℕ) → i + 1 < length s
-    → allFinite (pointsOf (drop i s)) ≡ (pointFinite (record { x = getD s i nan; y = getD s (i + 1) nan }) && allFinite (pointsOf (drop (i + 2) s)))
+    → allFinite (pointsOf (drop i s)) ≡ (pointFinite (pointAt s i) && allFinite (pointsOf (drop (i + 2) s)))
 unfolding allFinite pointsOf
 all-more s i h =
     let a : i < length s = omega arith in

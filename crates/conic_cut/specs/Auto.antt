@@ -2,34 +2,42 @@
 use Prim.Native.Nat.{ℕ, _^_}
 use mathlib.Core.Path.{_≡_}
 use mathlib.Core.Bool.{cond}
-use mathlib.Core.List.{List, _++_}
+use mathlib.Core.List.{List, [], _∷_, _++_}
 use lib.ListN.{drop, replicate}
-use lib.Ieee.{Float, binary32, ofBits}
+use lib.Ieee.{Float}
+use Rattle.float_laws.specs.Formula.{zero32, quarter32}
 use Rattle.conic.specs.declared.Conic.{Conic}
+use Rattle.conic.specs.declared.Refusal.{Refusal}
 use Rattle.conic.specs.declared.Refusal.the-variants.{PointNotFinite}
 use Rattle.conic.specs.declared.Rule.the-variants.{Product}
 use Rattle.conic.specs.Chop.{chopBy}
-use Rattle.conic.specs.Level.{quarter, conicFinite, levelOf}
+use Rattle.conic.specs.Level.{conicFinite, levelOf}
 use Rattle.conic_cut.specs.declared.AutoConicToQuads.{AutoConicToQuads}
 use Rattle.conic_cut.specs.declared.Cut.{Cut}
 use Rattle.conic_cut.specs.declared.Cut.the-variants.{Quads, Refused}
 use Rattle.point.specs.Numbers.{flat}
-use Rattle.conic_cut.specs.Cut.{written, room, numberOfCut}
+use Rattle.conic.specs.Refusal.{numberOf, valuesOf}
+use Rattle.conic_cut.specs.Cut.{written, room, numberOfCut, valuesOfCut}
 
 unfoldable pub zeros : List Float
-zeros = replicate 128 (ofBits binary32 0)
+zeros = replicate 128 zero32
 
 abbrev pub autoLevel : Conic → ℕ
-autoLevel c = levelOf c quarter
+autoLevel c = levelOf c quarter32
+
+-- 3 where a point is not finite, and else what is well
+abbrev pub refuseAuto : {A : Type 0} → Conic → (Refusal → A) → A → A
+refuseAuto c refused well = cond (conicFinite c) well (refused PointNotFinite)
 
 unfoldable pub autoAnswer : Conic → Cut
-autoAnswer c = cond (conicFinite c) (Quads (2 ^ autoLevel c)) (Refused PointNotFinite)
+autoAnswer c = refuseAuto c Refused (Quads (2 ^ autoLevel c))
 
 unfoldable pub autoPoints : Conic → List Float
-autoPoints c = cond (conicFinite c) (flat (written (chopBy Product) (autoLevel c) c) ++ drop (room (autoLevel c)) zeros) zeros
+autoPoints c = refuseAuto c (λ _. zeros) (flat (written (chopBy Product) (autoLevel c) c) ++ drop (room (autoLevel c)) zeros)
 
--- the answer, its number in the scope document, and the points
+-- the answer, its number and its values, and the points; no two results are it (`proofs/Unique`)
 pub record Computed (c : Conic) (r : AutoConicToQuads) : Type 0 where
   pub answer : r .answer ≡ autoAnswer c
-  pub number : numberOfCut (r .answer) ≡ cond (conicFinite c) 0 3
+  pub number : numberOfCut (r .answer) ≡ refuseAuto c numberOf 0
+  pub values : valuesOfCut (r .answer) ≡ refuseAuto c valuesOf (2 ^ autoLevel c ∷ [])
   pub points : r .points ≡ autoPoints c

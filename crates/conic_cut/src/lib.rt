@@ -1,5 +1,6 @@
 // Conics cut into quads. By the exact rule the cut never turns back: the second clause of `chop_into_quads_pow2`'s contract.
 // Carried over from `path_geometry.rs` of tiny-skia-path 0.12.0; the rule, and an answer for each refusal, are added.
+ghost use mathlib.Core.Path.{_≡_};
 ghost use mathlib.Core.Bool.{false};
 ghost use Prim.Native.Nat.{_≤_};
 ghost use lib.Dec.{ltb};
@@ -7,7 +8,7 @@ ghost use lib.ListN.{length};
 ghost use Rattle.conic.specs.Chop.{conicFrom, chopBy};
 ghost use Rattle.conic.specs.Source.{conicOf};
 ghost use Rattle.conic_cut.specs.Auto.{Computed};
-ghost use Rattle.conic_cut.specs.Cut.{CutInto};
+ghost use Rattle.conic_cut.specs.Cut.{CutInto, numberOfCut};
 ghost use Rattle.conic_cut.specs.Order.{OrderKept};
 use conic::Conic;
 use conic::FromPoints;
@@ -22,6 +23,18 @@ mod cutting;
 pub enum Cut {
     Quads(usize),
     Refused(Refusal),
+}
+
+impl Cut {
+    // Its number in docs/RULES.md, "Answer numbers".
+    pub fn number(self) -> u32
+        ensures { λ r. ⌜ r ≡ numberOfCut self ⌝ }
+    {
+        match self {
+            Cut::Quads(_) => 0,
+            Cut::Refused(r) => r.number(),
+        }
+    }
 }
 
 // Cuts c into 2^level quads, which share their ends: x and y of each point, from the start of `out` on.

@@ -3,8 +3,9 @@ use mathlib.Core.Bool.{true, false}
 use mathlib.Core.Path.{_≡_, refl}
 use Prim.Native.Nat.{ℕ, zero, suc, _+_, _-_, _≤_, _<_}
 use native.Mathlib.Omega.{arith}
-use lib.Ieee.{Float, binary32, mul, le}
-use Rattle.conic.specs.Level.{quarter, quarteringsOf, ceiling}
+use lib.Ieee.{Float, le}
+use Rattle.float_laws.specs.Formula.{_⊗_, quarter32}
+use Rattle.conic.specs.Level.{quarteringsOf, ceiling}
 use Rattle.conic.proofs.leveling.quarterings.Statement.{statement}
 use Rattle.conic.proofs.leveling.quarterings.Tie as tie
 
@@ -18,7 +19,7 @@ unfolding quarteringsOf
 none n e t h = rw h
 
 -- one step more, of n at most of which p are done
-beyond : (n p : ℕ) (e t : Float) → p < n → le e t ≡ false → quarteringsOf (n - p) e t ≡ suc (quarteringsOf (n - (p + 1)) (mul binary32 e quarter) t)
+beyond : (n p : ℕ) (e t : Float) → p < n → le e t ≡ false → quarteringsOf (n - p) e t ≡ suc (quarteringsOf (n - (p + 1)) (e ⊗ quarter32) t)
 unfolding quarteringsOf
 beyond n p e t h f = let k : n - p ≡ suc (n - (p + 1)) = omega arith in rw (k, f)
 

@@ -7,7 +7,8 @@ use contract.Lifetimes.{Lfts}
 use borrow.Fn.Kinds.{In}
 use borrow.Fn.PlainCycle.{Measures, is, falls, and}
 use Rattle.conic.specs.declared.Conic.{Conic}
-use Rattle.conic.specs.Chop.{conicFrom, pointFrom, chopBy}
+use Rattle.conic.specs.Chop.{conicFrom, chopBy}
+use Rattle.point.specs.Point.{pointFrom}
 use Rattle.conic.proofs.Conic.chop_at.Reads as chop-at-reads
 use Rattle.conic_cut.proofs.Ladder.{rung, chop-rung}
 use Rattle.conic_cut.proofs.Stores.{pow-zero, pow-more, stored-zero, stored-more}

@@ -6,7 +6,8 @@ use native.Mathlib.Omega.{arith}
 use borrow.Author.Needs.{needs}
 use lib.ListN.{length, drop}
 use Rattle.conic_cut.proofs.Stores.{all-more, all-end}
-use Rattle.conic_cut.specs.Cut.{allFinite, pointsOf}
+use Rattle.conic_cut.specs.Cut.{allFinite}
+use Rattle.point.specs.Numbers.{pointsOf}
 use Rattle.conic_cut.proofs.cutting.all_finite.Statement.{statement}
 use Rattle.conic_cut.proofs.cutting.all_finite.Tie as tie
 

@@ -6,7 +6,8 @@ use borrow.Author.Needs.{needs}
 use lib.Seq.{length-take-le}
 use lib.Pow.{pow-pos}
 use lib.ListN.{replicate, length-replicate}
-use lib.Ieee.{Float, binary32, ofBits}
+use lib.Ieee.{Float}
+use Rattle.float_laws.specs.Formula.{zero32}
 use Rattle.conic_cut.proofs.Ladder.{rungs-hold}
 use Rattle.conic_cut.proofs.Stores.{stored-fine, stored-pinned}
 use Rattle.conic_cut.proofs.Order.{joined}
@@ -26,8 +27,8 @@ subdivide-requires c κs =
     let s = c .before .before .before .before .before .before .before .before .before in
     let put = c .before .before .before .before .put in
     let made = c .before .before .before .before .before .before .ladder in
-    let empty = replicate 12 (ofBits binary32 0) in
-    let held = rungs-hold (s .args .level) empty (s .args .c .weight) (omega (arith, s .pre .1, length-replicate 12 (ofBits binary32 0))) in
+    let empty = replicate 12 zero32 in
+    let held = rungs-hold (s .args .level) empty (s .args .c .weight) (omega (arith, s .pre .1, length-replicate 12 zero32)) in
     (omega (arith, s .pre .0, put .ensures .0, put .kept .0), (s .pre .1, subst⁻¹ (λ (l : List Float). Rungs l (s .args .level) (s .args .c .weight)) (made .ensures) held))
 
 slice-reshare-prefix-all-finite : tie.Need-slice-reshare-prefix-all-finite
