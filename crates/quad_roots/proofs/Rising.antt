@@ -2,36 +2,39 @@
 use mathlib.Core.Path.{_≡_, refl, sym, subst}
 use mathlib.Core.Bool.{Bool, true, false, cond, _||_}
 use lib.Dec.{T}
-use lib.Ieee.{Float, binary32, binary64, div, neg, lt, le, eq, ofBits}
+use lib.Ieee.{Float, neg, lt, le, eq, ofBits}
 use lib.Ieee.Fits.{and-l, and-r}
 use lib.Ieee.Scale.{finite}
+use Rattle.float_laws.proofs.Apart.{apart}
 use Rattle.float_laws.proofs.Order.{finite-between, or-left}
-use Rattle.float_laws.specs.Narrow.{narrowOf}
-use Rattle.float_laws.specs.Root.{rootOf}
+use Rattle.float_laws.specs.Formula.{_⊘_, zero32, one32, zero64}
 use Rattle.quad_roots.specs.declared.Divided.{Divided}
 use Rattle.quad_roots.specs.declared.Divided.the-variants as D
 use Rattle.quad_roots.specs.declared.Roots.{Roots}
 use Rattle.quad_roots.specs.declared.Roots.the-variants.{None, One, Two}
-use Rattle.quad_roots.specs.Roots.{zero32, one32, inside, quotientOf, dividedOf, asRoots, twoRoots, collected, discriminantOf, qOf, rootsOf, valuesOf, Rising}
-use Rattle.float_laws.proofs.Apart.{apart}
+use Rattle.quad_roots.specs.Roots.{inside, quotientOf, dividedOf, twoRoots, collected, discriminantOf, rootOfDiscriminant, qOf, rootsOf}
+use Rattle.quad_roots.specs.Roots.{valuesOfDivided, valuesOfRoots, Rising}
+
+abbrev Inside : Divided → Type 0
+Inside x = Rising (valuesOfDivided x)
 
 abbrev Good : Roots → Type 0
-Good x = Rising (valuesOf x)
+Good x = Rising (valuesOfRoots x)
 
 -- a quotient is kept where it is inside
-kept : (t u : Bool) (r : Float) → (T u → T (inside r)) → Good (asRoots (cond t D.None (cond u (D.One r) D.None)))
+kept : (t u : Bool) (r : Float) → (T u → T (inside r)) → Inside (cond t D.None (cond u (D.One r) D.None))
 kept true u r h = tt
 kept false true r h = h tt
 kept false false r h = tt
 
-quotient-rising : (n d : Float) → Good (asRoots (quotientOf n d))
-quotient-rising n d = kept (eq d zero32 || eq n zero32 || le d n) (inside (div binary32 n d)) (div binary32 n d) (λ t. t)
+quotient-rising : (n d : Float) → Inside (quotientOf n d)
+quotient-rising n d = kept (eq d zero32 || eq n zero32 || le d n) (inside (n ⊘ d)) (n ⊘ d) (λ t. t)
 
-either : (t : Bool) (x y : Divided) → Good (asRoots x) → Good (asRoots y) → Good (asRoots (cond t x y))
+either : (t : Bool) (x y : Divided) → Inside x → Inside y → Inside (cond t x y)
 either true x y p q = p
 either false x y p q = q
 
-pub divided-rising : (n d : Float) → Rising (valuesOf (asRoots (dividedOf n d)))
+pub divided-rising : (n d : Float) → Rising (valuesOfDivided (dividedOf n d))
 unfolding dividedOf
 divided-rising n d =
     either (lt n zero32) (quotientOf (neg n) (neg d)) (quotientOf n d) (quotient-rising (neg n) (neg d)) (quotient-rising n d)
@@ -52,7 +55,7 @@ two-rising r s p q = go (lt s r) (eq r s) refl refl
     go false true m e = p
     go false false m e = (p, apart r s (inside-finite r p) (inside-finite s q) m e, q)
 
-collected-rising : (x y : Divided) → Good (asRoots x) → Good (asRoots y) → Good (collected x y)
+collected-rising : (x y : Divided) → Inside x → Inside y → Good (collected x y)
 unfolding collected
 collected-rising D.None D.None p q = tt
 collected-rising D.None (D.One s) p q = q
@@ -65,12 +68,14 @@ answered false true v x y p q = tt
 answered false false true x y p q = q
 answered false false false x y p q = tt
 
-pub roots-rising : (a b c : Float) → Rising (valuesOf (rootsOf a b c))
+pub roots-rising : (a b c : Float) → Rising (valuesOfRoots (rootsOf a b c))
 unfolding rootsOf
 roots-rising a b c =
     let dr = discriminantOf a b c in
-    let r = narrowOf (rootOf binary64 dr) in
+    let r = rootOfDiscriminant dr in
     let q = qOf b r in
-    answered (eq a zero32) (lt dr (ofBits binary64 0)) (finite r) (collected (dividedOf (neg c) b) D.None) (collected (dividedOf q a) (dividedOf c q))
+    let one = collected (dividedOf (neg c) b) D.None in
+    let both = collected (dividedOf q a) (dividedOf c q) in
+    answered (eq a zero32) (lt dr zero64) (finite r) one both
     (collected-rising (dividedOf (neg c) b) D.None (divided-rising (neg c) b) tt)
     (collected-rising (dividedOf q a) (dividedOf c q) (divided-rising q a) (divided-rising c q))

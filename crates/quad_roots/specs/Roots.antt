@@ -3,8 +3,9 @@ use Prim.Native.Nat.{ℕ}
 use mathlib.Core.Bool.{Bool, cond, _&&_, _||_}
 use mathlib.Core.List.{List, [], _∷_}
 use lib.Dec.{T}
-use lib.Ieee.{Float, binary32, binary64, add, sub, mul, div, neg, lt, le, eq, ofBits}
+use lib.Ieee.{Float, binary64, neg, lt, le, eq}
 use lib.Ieee.Scale.{finite}
+use Rattle.float_laws.specs.Formula.{_⊕_, _⊖_, _⊘_, _⊟_, _⊠_, zero32, one32, two32, zero64, four64}
 use Rattle.float_laws.specs.Narrow.{narrowOf}
 use Rattle.float_laws.specs.Root.{rootOf}
 use Rattle.quad_roots.specs.declared.Divided.{Divided}
@@ -12,22 +13,12 @@ use Rattle.quad_roots.specs.declared.Divided.the-variants as D
 use Rattle.quad_roots.specs.declared.Roots.{Roots}
 use Rattle.quad_roots.specs.declared.Roots.the-variants.{None, One, Two}
 
-abbrev pub zero32 : Float
-zero32 = ofBits binary32 0
-
-abbrev pub one32 : Float
-one32 = ofBits binary32 0x3f80_0000
-
-abbrev pub two32 : Float
-two32 = ofBits binary32 0x4000_0000
-
 -- strictly between 0 and 1
 abbrev pub inside : Float → Bool
 inside r = lt zero32 r && lt r one32
 
 abbrev pub quotientOf : Float → Float → Divided
-quotientOf n d =
-    cond (eq d zero32 || eq n zero32 || le d n) D.None (cond (inside (div binary32 n d)) (D.One (div binary32 n d)) D.None)
+quotientOf n d = cond (eq d zero32 || eq n zero32 || le d n) D.None (cond (inside (n ⊘ d)) (D.One (n ⊘ d)) D.None)
 
 -- both signs flip where the numerator is below 0
 unfoldable pub dividedOf : Float → Float → Divided
@@ -45,36 +36,42 @@ collected (D.One r) (D.One s) = twoRoots r s
 
 -- b·b - (4·a)·c in binary64
 unfoldable pub discriminantOf : Float → Float → Float → Float
-discriminantOf a b c = sub binary64 (mul binary64 b b) (mul binary64 (mul binary64 (ofBits binary64 0x4010_0000_0000_0000) a) c)
+discriminantOf a b c = b ⊠ b ⊟ four64 ⊠ a ⊠ c
+
+abbrev pub rootOfDiscriminant : Float → Float
+rootOfDiscriminant dr = narrowOf (rootOf binary64 dr)
 
 -- -(b - r)/2 if b < 0, else -(b + r)/2
 unfoldable pub qOf : Float → Float → Float
-qOf b r = cond (lt b zero32) (div binary32 (neg (sub binary32 b r)) two32) (div binary32 (neg (add binary32 b r)) two32)
+qOf b r = cond (lt b zero32) (neg (b ⊖ r) ⊘ two32) (neg (b ⊕ r) ⊘ two32)
 
 unfoldable pub rootsOf : Float → Float → Float → Roots
 rootsOf a b c =
     let dr = discriminantOf a b c in
-    let r = narrowOf (rootOf binary64 dr) in
+    let r = rootOfDiscriminant dr in
     let q = qOf b r in
     cond (eq a zero32)
     (collected (dividedOf (neg c) b) D.None)
-    (cond (lt dr (ofBits binary64 0)) None (cond (finite r) (collected (dividedOf q a) (dividedOf c q)) None))
+    (cond (lt dr zero64) None (cond (finite r) (collected (dividedOf q a) (dividedOf c q)) None))
 
--- ---- the answers as the scope document has them. "No root" is an answer and no refusal, so each case's number is 0; its values are the roots
-abbrev pub numberOf : Roots → ℕ
-numberOf None = 0
-numberOf (One r) = 0
-numberOf (Two r s) = 0
+-- ---- the answers' numbers and values (docs/RULES.md, "Answer numbers" and "Roots"): no root is an answer, not a refusal
+abbrev pub numberOfDivided : Divided → ℕ
+numberOfDivided D.None = 0
+numberOfDivided (D.One r) = 0
 
-abbrev pub valuesOf : Roots → List Float
-valuesOf None = []
-valuesOf (One r) = r ∷ []
-valuesOf (Two r s) = r ∷ s ∷ []
+abbrev pub valuesOfDivided : Divided → List Float
+valuesOfDivided D.None = []
+valuesOfDivided (D.One r) = r ∷ []
 
--- a quotient is a root on its own
-abbrev pub asRoots : Divided → Roots
-asRoots D.None = None
-asRoots (D.One r) = One r
+abbrev pub numberOfRoots : Roots → ℕ
+numberOfRoots None = 0
+numberOfRoots (One r) = 0
+numberOfRoots (Two r s) = 0
+
+abbrev pub valuesOfRoots : Roots → List Float
+valuesOfRoots None = []
+valuesOfRoots (One r) = r ∷ []
+valuesOfRoots (Two r s) = r ∷ s ∷ []
 
 -- each value lies strictly between 0 and 1, and below the next
 abbrev pub Rising : List Float → Type 0

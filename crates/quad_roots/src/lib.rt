@@ -1,6 +1,7 @@
 // The roots of a quadratic that lie strictly between 0 and 1.
 // Carried over from `path_geometry.rs` of tiny-skia-path 0.12.0.
 ghost use mathlib.Core.Path.{_≡_};
+ghost use lib.ListN.{length};
 ghost use Rattle.quad_roots.specs.Roots as R;
 use float_ground::is_finite_f32;
 use float_ground::narrow;
@@ -13,11 +14,50 @@ pub enum Divided {
     One(f32),
 }
 
+impl Divided {
+    // Its number in the table of answers. No root is an answer, not a refusal.
+    pub fn number(self) -> u32
+        ensures { λ r. ⌜ r ≡ R.numberOfDivided self ⌝ }
+    {
+        0
+    }
+
+    // How many roots there are.
+    pub fn count(self) -> u32
+        ensures { λ r. ⌜ r ≡ length (R.valuesOfDivided self) ⌝ }
+    {
+        match self {
+            Divided::None => 0,
+            Divided::One(_) => 1,
+        }
+    }
+}
+
 // The roots strictly between 0 and 1; two are strictly increasing.
 pub enum Roots {
     None,
     One(f32),
     Two(f32, f32),
+}
+
+impl Roots {
+    // Its number in the table of answers. No root is an answer, not a refusal.
+    pub fn number(self) -> u32
+        ensures { λ r. ⌜ r ≡ R.numberOfRoots self ⌝ }
+    {
+        0
+    }
+
+    // How many roots there are.
+    pub fn count(self) -> u32
+        ensures { λ r. ⌜ r ≡ length (R.valuesOfRoots self) ⌝ }
+    {
+        match self {
+            Roots::None => 0,
+            Roots::One(_) => 1,
+            Roots::Two(_, _) => 2,
+        }
+    }
 }
 
 // numer / denom where numer is not below 0, if it lies strictly between 0 and 1.
@@ -38,6 +78,8 @@ fn unit_divide(numer: f32, denom: f32) -> Divided
 // numer / denom, if it lies strictly between 0 and 1.
 pub fn valid_unit_divide(numer: f32, denom: f32) -> Divided
     ensures { λ r. ⌜ r ≡ R.dividedOf numer denom ⌝ }
+    ensures number { λ r. ⌜ R.numberOfDivided r ≡ 0 ⌝ }
+    ensures inside { λ r. ⌜ R.Rising (R.valuesOfDivided r) ⌝ }
 {
     if numer < 0.0 {
         return unit_divide(-numer, -denom);
@@ -82,6 +124,13 @@ fn discriminant(a: f32, b: f32, c: f32) -> f64
     widen(b) * widen(b) - 4.0 * widen(a) * widen(c)
 }
 
+// The discriminant's root, narrowed once it is taken.
+fn root(dr: f64) -> f32
+    ensures { λ x. ⌜ x ≡ R.rootOfDiscriminant dr ⌝ }
+{
+    narrow(sqrt_f64(dr))
+}
+
 // q/a and c/q are the roots, where r is the discriminant's root.
 fn q(b: f32, r: f32) -> f32
     ensures { λ x. ⌜ x ≡ R.qOf b r ⌝ }
@@ -96,6 +145,8 @@ fn q(b: f32, r: f32) -> f32
 // The roots of a·t² + b·t + c that lie strictly between 0 and 1.
 pub fn find_unit_quad_roots(a: f32, b: f32, c: f32) -> Roots
     ensures { λ x. ⌜ x ≡ R.rootsOf a b c ⌝ }
+    ensures number { λ x. ⌜ R.numberOfRoots x ≡ 0 ⌝ }
+    ensures inside { λ x. ⌜ R.Rising (R.valuesOfRoots x) ⌝ }
 {
     if a == 0.0 {
         return collected(valid_unit_divide(-c, b), Divided::None);
@@ -104,7 +155,7 @@ pub fn find_unit_quad_roots(a: f32, b: f32, c: f32) -> Roots
     if dr < 0.0 {
         return Roots::None;
     }
-    let r = narrow(sqrt_f64(dr));
+    let r = root(dr);
     if !is_finite_f32(r) {
         return Roots::None;
     }

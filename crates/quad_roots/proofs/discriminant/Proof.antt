@@ -4,6 +4,9 @@ use Rattle.quad_roots.proofs.Asks.{nothing}
 use Rattle.quad_roots.proofs.discriminant.Statement.{statement}
 use Rattle.quad_roots.proofs.discriminant.Tie as tie
 
-pub discriminant-spec : {M : Type 1} → statement M
+returns : tie.Need-returns
 unfolding discriminantOf
-discriminant-spec = tie.close (tie.spec nothing nothing nothing nothing (λ c. cc))
+returns c = cc
+
+pub discriminant-spec : {M : Type 1} → statement M
+discriminant-spec = tie.close (tie.spec nothing nothing nothing nothing returns)
