@@ -15,11 +15,11 @@ pub enum Divided {
 }
 
 impl Divided {
-    // Its number in the table of answers. No root is an answer, not a refusal.
+    // Its number in the table of answers.
     pub fn number(self) -> u32
         ensures { λ r. ⌜ r ≡ R.numberOfDivided self ⌝ }
     {
-        0
+        0 // no quotient is an answer, not a refusal
     }
 
     // How many roots there are.
@@ -41,11 +41,11 @@ pub enum Roots {
 }
 
 impl Roots {
-    // Its number in the table of answers. No root is an answer, not a refusal.
+    // Its number in the table of answers.
     pub fn number(self) -> u32
         ensures { λ r. ⌜ r ≡ R.numberOfRoots self ⌝ }
     {
-        0
+        0 // no root is an answer, not a refusal
     }
 
     // How many roots there are.
