@@ -1,4 +1,3 @@
 pub mod Answers
-pub mod Lent
 pub mod Quads
 pub mod Steps

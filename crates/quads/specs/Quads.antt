@@ -1,26 +1,26 @@
--- What the contracts of the quad's calls cite: the Rust's formulas, operation by operation. Definitions only.
+-- What the contracts of the quad's calls cite: the Rust's formulas, operation by operation (docs/RULES.md, "Quads and cubics"). Definitions only.
 use Prim.Native.Nat.{ℕ}
 use mathlib.Core.Bool.{cond, _&&_, _||_}
 use mathlib.Core.List.{List, [], _∷_}
-use lib.Dec.{ltb}
-use lib.ListN.{length}
-use lib.Ieee.{Float, binary32, div, neg, lt, le, eq, isNan}
+use lib.Ieee.{Float, neg, lt, le, eq, isNan}
+use Rattle.float_laws.specs.Formula.{_⊕_, _⊖_, _⊗_, _⊘_, zero32, one32}
 use Rattle.point.specs.declared.Point.{Point}
+use Rattle.point.specs.Numbers.{flat, pointAt}
+use Rattle.point.specs.Point.{pointFrom}
 use Rattle.quad_roots.specs.declared.Divided.{Divided}
 use Rattle.quad_roots.specs.Roots.{dividedOf}
-use Rattle.quads.specs.declared.quad.Quad.{Quad}
-use Rattle.quads.specs.declared.quad.Curvature.{Curvature}
-use Rattle.quads.specs.declared.quad.Curvature.the-variants.{At, Undefined, Short}
-use Rattle.point.specs.Numbers.{flat}
-use Rattle.quads.specs.Lent.{pointOf}
-use Rattle.quads.specs.Steps.{_⊕_, _⊖_, _⊗_, zero32, one32, times2, squareAt, same, minus, interp}
+use Rattle.quads.specs.declared.Quad.{Quad}
+use Rattle.quads.specs.declared.Curvature.{Curvature}
+use Rattle.quads.specs.declared.Curvature.the-variants.{At, Undefined, BufferTooShort}
+use Rattle.quads.specs.Answers.{shortPick}
+use Rattle.quads.specs.Steps.{times2, squareAt, same, minus, interp}
 
 abbrev pub quadOf : List Float → Quad
-quadOf l = record { p0 = pointOf l 0; p1 = pointOf l 2; p2 = pointOf l 4 }
+quadOf l = record { p0 = pointAt l 0; p1 = pointAt l 2; p2 = pointAt l 4 }
 
 -- a formula along both axes
 abbrev pub axes : (Float → Float → Float → Float) → Quad → Point
-axes f q = record { x = f (q .p0 .x) (q .p1 .x) (q .p2 .x); y = f (q .p0 .y) (q .p1 .y) (q .p2 .y) }
+axes f q = pointFrom (f (q .p0 .x) (q .p1 .x) (q .p2 .x)) (f (q .p0 .y) (q .p1 .y) (q .p2 .y))
 
 abbrev pub evalAxis : Float → Float → Float → Float → Float
 evalAxis t p0 p1 p2 = squareAt (p2 ⊖ times2 p1 ⊕ p0) (times2 (p1 ⊖ p0)) p0 t
@@ -47,17 +47,13 @@ abbrev pub quadExtrema : Float → Float → Float → Divided
 quadExtrema a b c = dividedOf (a ⊖ b) (a ⊖ b ⊖ b ⊕ c)
 
 -- ---- maximum curvature
-abbrev pub numberOfCurvature : Curvature → ℕ
-numberOfCurvature (At t) = 0
-numberOfCurvature Undefined = 5
-numberOfCurvature Short = 2
-
--- n / d, or 0 or 1 where it lies at or past that end: what goes with such a value, and what with 5, where neither end applies and the quotient is NaN
+-- n / d, or 0 or 1 where it lies at or past that end: what goes with such a value, and what with 5, where neither end
+-- applies and the quotient is NaN
 abbrev pub pinned : {A : Type 0} → (Float → A) → A → Float → Float → A
 pinned at five n d =
     cond (le n zero32)
     (at zero32)
-    (cond (le d n) (at one32) (cond (isNan (div binary32 n d)) five (at (div binary32 n d))))
+    (cond (le d n) (at one32) (cond (isNan (n ⊘ d)) five (at (n ⊘ d))))
 
 -- -(a·b) / (b·b), both signs flipped where the denominator is below 0
 unfoldable pub quadCurvature : {A : Type 0} → (Float → A) → A → Quad → A
@@ -70,7 +66,10 @@ quadCurvature at five q =
 
 -- 2 comes before 5
 abbrev pub curvatureAnswer : List Float → Curvature
-curvatureAnswer l = cond (ltb (length l) 6) Short (quadCurvature At Undefined (quadOf l))
+curvatureAnswer l = shortPick 6 l BufferTooShort (quadCurvature At Undefined (quadOf l))
 
 abbrev pub curvatureNumber : List Float → ℕ
-curvatureNumber l = cond (ltb (length l) 6) 2 (quadCurvature (λ t. 0) 5 (quadOf l))
+curvatureNumber l = shortPick 6 l 2 (quadCurvature (λ t. 0) 5 (quadOf l))
+
+abbrev pub curvatureValues : List Float → List Float
+curvatureValues l = shortPick 6 l [] (quadCurvature (λ t. t ∷ []) [] (quadOf l))

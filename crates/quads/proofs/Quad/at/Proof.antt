@@ -1,8 +1,8 @@
--- `quads::quad::Quad::at` meets its contract. Assumes nothing.
+-- `quads::Quad::at` meets its contract. Assumes nothing.
 use Rattle.quads.specs.Quads.{quadAt}
 use Rattle.quad_roots.proofs.Asks.{nothing}
-use Rattle.quads.proofs.quad.Quad.at.Statement.{statement}
-use Rattle.quads.proofs.quad.Quad.at.Tie as tie
+use Rattle.quads.proofs.Quad.at.Statement.{statement}
+use Rattle.quads.proofs.Quad.at.Tie as tie
 
 pub at-spec : {M : Type 1} → statement M
 unfolding quadAt

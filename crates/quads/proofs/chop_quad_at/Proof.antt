@@ -1,15 +1,15 @@
--- `quads::quad::chop_quad_at` meets its contract. Assumes nothing.
+-- `quads::chop_quad_at` meets its contract. Assumes nothing.
 use mathlib.Core.Path.{_≡_, refl}
 use borrow.Author.Needs.{needs}
 use borrow.Author.Tests.{lt-ltb, le-ltb}
 use lib.ListN.{length}
 use lib.Ieee.{Float}
 use Rattle.point.specs.Numbers.{flat}
-use Rattle.quads.specs.declared.quad.Quad.{Quad}
+use Rattle.quads.specs.declared.Quad.{Quad}
 use Rattle.quads.specs.Quads.{quadChop}
 use Rattle.quad_roots.proofs.Asks.{nothing}
-use Rattle.quads.proofs.quad.chop_quad_at.Statement.{statement}
-use Rattle.quads.proofs.quad.chop_quad_at.Tie as tie
+use Rattle.quads.proofs.chop_quad_at.Statement.{statement}
+use Rattle.quads.proofs.chop_quad_at.Tie as tie
 
 chop-length : (q : Quad) (t : Float) → length (quadChop q t) ≡ 10
 unfolding quadChop flat

@@ -1,9 +1,9 @@
--- `quads::quad::Quad::max_curvature` meets its contract. The denominator is a sum of squares, so no sign flips. Assumes nothing.
+-- `quads::Quad::max_curvature` meets its contract. The denominator is a sum of squares, so no sign flips. Assumes nothing.
 use Rattle.quads.specs.Quads.{quadCurvature}
 use Rattle.float_laws.proofs.Squares.{sum-of-squares}
 use Rattle.quad_roots.proofs.Asks.{nothing}
-use Rattle.quads.proofs.quad.Quad.max_curvature.Statement.{statement}
-use Rattle.quads.proofs.quad.Quad.max_curvature.Tie as tie
+use Rattle.quads.proofs.Quad.max_curvature.Statement.{statement}
+use Rattle.quads.proofs.Quad.max_curvature.Tie as tie
 
 pub max-curvature-spec : {M : Type 1} → statement M
 unfolding quadCurvature

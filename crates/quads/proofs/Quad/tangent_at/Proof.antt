@@ -1,8 +1,8 @@
--- `quads::quad::Quad::tangent_at` meets its contract. Assumes nothing.
+-- `quads::Quad::tangent_at` meets its contract. Assumes nothing.
 use Rattle.quads.specs.Quads.{quadTangent}
 use Rattle.quad_roots.proofs.Asks.{nothing}
-use Rattle.quads.proofs.quad.Quad.tangent_at.Statement.{statement}
-use Rattle.quads.proofs.quad.Quad.tangent_at.Tie as tie
+use Rattle.quads.proofs.Quad.tangent_at.Statement.{statement}
+use Rattle.quads.proofs.Quad.tangent_at.Tie as tie
 
 pub tangent-at-spec : {M : Type 1} → statement M
 unfolding quadTangent

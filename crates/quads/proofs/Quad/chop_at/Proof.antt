@@ -1,9 +1,9 @@
--- `quads::quad::Quad::chop_at` meets its contract. Assumes nothing.
+-- `quads::Quad::chop_at` meets its contract. Assumes nothing.
 use Rattle.point.specs.Numbers.{flat}
 use Rattle.quads.specs.Quads.{quadChop}
 use Rattle.quad_roots.proofs.Asks.{nothing}
-use Rattle.quads.proofs.quad.Quad.chop_at.Statement.{statement}
-use Rattle.quads.proofs.quad.Quad.chop_at.Tie as tie
+use Rattle.quads.proofs.Quad.chop_at.Statement.{statement}
+use Rattle.quads.proofs.Quad.chop_at.Tie as tie
 
 pub chop-at-spec : {M : Type 1} → statement M
 unfolding quadChop flat
