@@ -4,36 +4,60 @@
 #include "../include/nyerdzumak.h"
 
 // The corrected time at a recorded one that lies within the cut: in a straight line between the ends of its quad, which
-// are every second point.
-static float date(const float *points, size_t quads, float recorded) {
-    size_t k = 0;
+// are every second point. Rounding can carry p + (q - p) * t past q, so it is held between the two: then a later recorded
+// time within the same rise never gets an earlier date than the end of the quad before it.
+static float date(const float *points, nz_len quads, float recorded) {
+    nz_len k = 0;
     while (k + 1 < quads && points[4 * k + 4] < recorded) k++;
     const float *p = points + 4 * k, *q = p + 4;
     if (q[0] <= p[0]) return p[1];
-    return p[1] + (q[1] - p[1]) * ((recorded - p[0]) / (q[0] - p[0]));
+    float y = p[1] + (q[1] - p[1]) * ((recorded - p[0]) / (q[0] - p[0]));
+    float low = p[1] < q[1] ? p[1] : q[1], high = p[1] < q[1] ? q[1] : p[1];
+    return y < low ? low : y > high ? high : y;
+}
+
+// Whether the xs along the points never fall: the library's promise is on the ys, and strokes are looked up by x.
+static bool forward(const float *points, nz_len quads) {
+    for (nz_len k = 0; k < 2 * quads; k++)
+        if (!(points[2 * k] <= points[2 * k + 2])) return false;
+    return true;
 }
 
 int main(void) {
-    // from (1000, 1000) to (2000, 2400) milliseconds: recorded across, corrected up
+    // from (1000, 1000) to (2000, 2400) milliseconds since the session began: recorded across, corrected up
     const float bridge[6] = {1000, 1000, 1500, 1100, 2000, 2400};
-    float points[66];
-    uint32_t answer = nz_cut_in_order(bridge, 6, 0.75f, 2, points, 66);
+    float points[NZ_CUT_ROOM(NZ_MAX_LEVEL)];
+    if (!nz_between_exact(bridge[1], bridge[3], bridge[5])) return 1; // no promise on the order of such a cut
+    uint32_t answer = nz_cut_in_order(bridge, 6, 0.75f, 2, points, NZ_CUT_ROOM(2));
     printf("cut at level 2: answer %u\n", answer);
+    if (answer != NZ_OK || !forward(points, 4)) return 1;
     for (int k = 0; k < 9; k++) printf("  %.3f %.3f\n", points[2 * k], points[2 * k + 1]);
     for (float t = 1000; t <= 2000; t += 250) printf("stroke recorded at %.0f: %.3f\n", t, date(points, 4, t));
 
-    printf("nine numbers of room at level 1: answer %u\n", nz_cut_in_order(bridge, 6, 1, 1, points, 9));
-    printf("level 5: answer %u\n", nz_cut_in_order(bridge, 6, 1, 5, points, 66));
+    // an end that rounding would pass: 289.78162 + (2438.7522 - 289.78162) * 1 is above 2438.7522
+    const float steep[6] = {0, 289.78162f, 1, 1000, 2, 2438.7522f};
+    answer = nz_cut_in_order(steep, 6, 1, 0, points, NZ_CUT_ROOM(0));
+    if (answer != NZ_OK) return 1;
+    printf("the last stroke of a bridge that ends at 2438.7522: %.4f\n", date(points, 1, 2));
+
+    answer = nz_cut_in_order(bridge, 6, 1, 1, points, 9);
+    printf("nine numbers of room at level 1: answer %u\n", answer);
+    answer = nz_cut_in_order(bridge, 6, 1, 5, points, NZ_CUT_ROOM(NZ_MAX_LEVEL));
+    printf("level 5: answer %u\n", answer);
 
     uint32_t level = 0;
     answer = nz_conic_compute_quad_pow2(bridge, 6, 0.75f, 0.25f, &level);
     printf("level for a quarter of a millisecond: %u, answer %u\n", level, answer);
 
     const float m[6] = {1, 2, 3, 4, 5, 6};
-    float p[2] = {1, 1}, inverse[6] = {0};
-    answer = nz_transform_map_point(m, p);
-    printf("(1, 1) maps to (%g, %g), answer %u\n", p[0], p[1], answer);
+    float p[2] = {1, 1};
+    nz_transform_map_point(m, p);
+    printf("(1, 1) maps to (%g, %g)\n", p[0], p[1]);
+    float undone[6] = {2, 0, 0, 4, 6, 8};
+    answer = nz_transform_invert(undone, undone); // in place
+    printf("2, 0, 0, 4, 6, 8 is undone by %g, %g, %g, %g, %g, %g, answer %u\n", undone[0], undone[1], undone[2], undone[3], undone[4], undone[5], answer);
     const float flat[6] = {1, 1, 1, 1, 0, 0};
-    printf("a flat matrix is not inverted: answer %u\n", nz_transform_invert(flat, inverse));
+    answer = nz_transform_invert(flat, undone);
+    printf("a flat matrix is not inverted: answer %u\n", answer);
     return 0;
 }

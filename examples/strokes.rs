@@ -2,7 +2,7 @@
 include!("../include/nyerdzumak.rs");
 
 // The corrected time at a recorded one that lies within the cut: in a straight line between the ends of its quad, which
-// are every second point.
+// are every second point. Rounding can carry p + (q - p) * t past q, so it is held between the two.
 fn date(points: &[f32], quads: usize, recorded: f32) -> f32 {
     let mut k = 0;
     while k + 1 < quads && points[4 * k + 4] < recorded {
@@ -12,19 +12,29 @@ fn date(points: &[f32], quads: usize, recorded: f32) -> f32 {
     if q[0] <= p[0] {
         return p[1];
     }
-    p[1] + (q[1] - p[1]) * ((recorded - p[0]) / (q[0] - p[0]))
+    let y = p[1] + (q[1] - p[1]) * ((recorded - p[0]) / (q[0] - p[0]));
+    y.clamp(p[1].min(q[1]), p[1].max(q[1]))
+}
+
+// Whether the xs along the points never fall: the library's promise is on the ys, and strokes are looked up by x.
+fn forward(points: &[f32]) -> bool {
+    points.chunks(2).zip(points.chunks(2).skip(1)).all(|(p, q)| p[0] <= q[0])
 }
 
 fn cut(bridge: &[f32], weight: f32, level: u32, out: &mut [f32]) -> u32 {
     // the library never reads or writes past the lengths that it is given
-    unsafe { nz_cut_in_order(bridge.as_ptr(), bridge.len(), weight, level, out.as_mut_ptr(), out.len()) }
+    unsafe { nz_cut_in_order(bridge.as_ptr(), bridge.len() as u64, weight, level, out.as_mut_ptr(), out.len() as u64) }
 }
 
 fn main() {
-    // from (1000, 1000) to (2000, 2400) milliseconds: recorded across, corrected up
-    let bridge = [1000.0, 1000.0, 1500.0, 1100.0, 2000.0, 2400.0];
-    let mut points = [0.0; 66];
-    println!("cut at level 2: answer {}", cut(&bridge, 0.75, 2, &mut points));
+    // from (1000, 1000) to (2000, 2400) milliseconds since the session began: recorded across, corrected up
+    let bridge: [f32; 6] = [1000.0, 1000.0, 1500.0, 1100.0, 2000.0, 2400.0];
+    let mut points = [0.0; nz_cut_room(NZ_MAX_LEVEL) as usize];
+    // no promise on the order of a cut whose middle y is elsewhere
+    assert!(unsafe { nz_between_exact(bridge[1], bridge[3], bridge[5]) });
+    let answer = cut(&bridge, 0.75, 2, &mut points);
+    println!("cut at level 2: answer {answer}");
+    assert!(answer == NZ_OK && forward(&points[..18]));
     for p in points[..18].chunks(2) {
         println!("  {:.3} {:.3}", p[0], p[1]);
     }
@@ -32,16 +42,26 @@ fn main() {
         println!("stroke recorded at {:.0}: {:.3}", t, date(&points, 4, t));
     }
 
+    // an end that rounding would pass: 289.78162 + (2438.7522 - 289.78162) * 1 is above 2438.7522
+    let steep = [0.0, 289.78162, 1.0, 1000.0, 2.0, 2438.7522];
+    assert!(cut(&steep, 1.0, 0, &mut points) == NZ_OK);
+    println!("the last stroke of a bridge that ends at 2438.7522: {:.4}", date(&points, 1, 2.0));
+
     println!("nine numbers of room at level 1: answer {}", cut(&bridge, 1.0, 1, &mut points[..9]));
     println!("level 5: answer {}", cut(&bridge, 1.0, 5, &mut points));
 
     let mut level = 0;
     let answer = unsafe { nz_conic_compute_quad_pow2(bridge.as_ptr(), 6, 0.75, 0.25, &mut level) };
-    println!("level for a quarter of a millisecond: {}, answer {}", level, answer);
+    println!("level for a quarter of a millisecond: {level}, answer {answer}");
 
-    let (mut p, mut inverse) = ([1.0, 1.0], [0.0; 6]);
-    let answer = unsafe { nz_transform_map_point(&[1.0, 2.0, 3.0, 4.0, 5.0, 6.0], &mut p) };
-    println!("(1, 1) maps to ({}, {}), answer {}", p[0], p[1], answer);
-    let answer = unsafe { nz_transform_invert(&[1.0, 1.0, 1.0, 1.0, 0.0, 0.0], &mut inverse) };
-    println!("a flat matrix is not inverted: answer {}", answer);
+    let mut p = [1.0, 1.0];
+    unsafe { nz_transform_map_point(&[1.0, 2.0, 3.0, 4.0, 5.0, 6.0], &mut p) };
+    println!("(1, 1) maps to ({}, {})", p[0], p[1]);
+    let mut undone = [2.0, 0.0, 0.0, 4.0, 6.0, 8.0];
+    let matrix: *mut [f32; 6] = &mut undone;
+    let answer = unsafe { nz_transform_invert(matrix, matrix) }; // in place
+    let [a, b, c, d, e, f] = undone;
+    println!("2, 0, 0, 4, 6, 8 is undone by {a}, {b}, {c}, {d}, {e}, {f}, answer {answer}");
+    let answer = unsafe { nz_transform_invert(&[1.0, 1.0, 1.0, 1.0, 0.0, 0.0], &mut undone) };
+    println!("a flat matrix is not inverted: answer {answer}");
 }

@@ -1,125 +1,158 @@
-/* Nyerdzumak: cuts of conics that never turn back, and the float geometry below them.
+/* Nyerdzumak: conics cut into quads whose ys keep one direction, and the float geometry below them.
  *
- * Every call ends, on any bits, and reads and writes what is said here and nothing else. A call that gives its values
- * through lent memory answers with a number:
+ * ANSWERS. Every call ends, on any bits, and reads and writes what is said here and nothing else. A call that can refuse
+ * returns one of the numbers below, NZ_OK or why it did nothing; of several that apply the first in this order is given:
+ * NZ_OUT_OF_RANGE, NZ_LEVEL_TOO_HIGH or NZ_BAD_TOLERANCE, then NZ_BUFFER_TOO_SHORT, then the others. A call that cannot
+ * refuse returns what it gives, or nothing. So every uint32_t that is called an answer here is worth testing.
  *
- *   0  none below applies
- *   1  level above 4
- *   2  a lent source or buffer is shorter than needed
- *   3  a point of the conic fails the finite test, in level choice only
- *   4  tolerance below 0 or not finite
- *   5  maximum curvature reaches its quotient, and that is NaN
- *   6  a skewed matrix has a determinant that is nearly zero
- *   7  a skewed matrix, not 6, has an inverse with an entry that is not finite
- *   8  t outside its range, or NaN
- *   9  a buffer of points as numbers has odd length, in mapping only
+ * OUTPUTS. An output that has no value keeps its contents: all of them beside a refusal, and places for roots past those
+ * that were found. A buffer that is longer than needed keeps its tail.
  *
- * The first that applies wins: 8 before 2, 1 before 2, 4 before 2, 2 before 3 and 5. Any number but 0 is a refusal, and
- * leaves all lent memory as it was.
+ * BUFFERS. Points are numbers, x then y. A lent buffer is a pointer and then its length in numbers, not in points or
+ * bytes. The pointer must be good for that length and must not be NULL, not even with length 0. A buffer must not overlap
+ * another argument's memory. Matrices are the exception: out may be the same array as m, a or b.
  *
- * Points are numbers, x then y. A length counts numbers, not points or bytes. A longer source or buffer than needed is
- * fine; the tail of a buffer keeps its contents. No two of the buffers of one call may overlap, unless neither is
- * written. Pointers must be valid for what the lengths and array sizes say; an empty slice still needs a pointer that is not null.
+ * FLOATS. What is proved is proved of IEEE 754 arithmetic: round to nearest, subnormals kept. Do not set flush-to-zero or
+ * another rounding mode; linking with -ffast-math sets flush-to-zero at start-up, and then a cut can turn back.
+ * A NaN that is computed may have any NaN's bits.
+ *
+ * docs/RULES.md has the rules in full.
  */
 #ifndef NYERDZUMAK_H
 #define NYERDZUMAK_H
 
 #include <stdbool.h>
-#include <stddef.h>
 #include <stdint.h>
 
-#ifdef __cplusplus
+#define NZ_VERSION "0.1.0"
+
+/* the answers */
+#define NZ_OK 0u                  /* none below applies */
+#define NZ_LEVEL_TOO_HIGH 1u      /* level above NZ_MAX_LEVEL */
+#define NZ_BUFFER_TOO_SHORT 2u    /* a lent source or buffer is shorter than needed */
+#define NZ_POINT_NOT_FINITE 3u    /* a point of the conic fails nz_point_is_finite, in level choice only */
+#define NZ_BAD_TOLERANCE 4u       /* tolerance below 0 or not finite */
+#define NZ_CURVATURE_UNDEFINED 5u /* the curvature is greatest at a quotient that is NaN */
+#define NZ_NEARLY_SINGULAR 6u     /* a skewed matrix has a determinant that is nearly zero */
+#define NZ_INVERSE_NOT_FINITE 7u  /* a skewed matrix, not 6, has an inverse with an entry that is not finite */
+#define NZ_OUT_OF_RANGE 8u        /* t outside its range, or NaN */
+#define NZ_ODD_LENGTH 9u          /* a buffer of points as numbers has odd length, in mapping only */
+
+/* the highest level of a cut, and the room in numbers that a cut at a level needs: 6, 10, 18, 34, 66 */
+#define NZ_MAX_LEVEL 4u
+#define NZ_CUT_ROOM(level) (2u * ((2u << (level)) + 1u))
+
+/* A length, in numbers: 64 bits on every target, also where size_t has 32. */
+typedef uint64_t nz_len;
+
+#if defined(__cplusplus)
+#define NZ_RESTRICT
 extern "C" {
+#else
+#define NZ_RESTRICT restrict
 #endif
 
 /* ---- conics: six lent numbers, start, middle and end, and a weight ---- */
 
-/* Cuts a conic into 2^level quads by the exact between test: the cut that never turns back. From three finite points
- * with the middle y between the ends, and any weight, the written ys only rise or only fall, and all points are finite.
- * Writes 2 * 2^level + 1 points, which the quads share: room for 2 * (2 * 2^level + 1) numbers, 66 at level 4.
- * Answers 0, 1 or 2. */
-uint32_t nz_cut_in_order(const float *src, size_t src_len, float weight, uint32_t level, float *out, size_t out_len);
+/* Cuts a conic into 2^level quads by the exact between test. Writes 2 * 2^level + 1 points, which the quads share:
+ * NZ_CUT_ROOM(level) numbers.
+ *   The promise. From three finite points whose middle y lies between the end ys or equals one of them, whatever the
+ * weight, all written points are finite, the first and the last are the conic's own, and along the points the ys keep one
+ * direction, rising or falling, ties allowed. Test the middle y with nz_between_exact: where it fails, the cut is made and
+ * answered with NZ_OK all the same, and can turn back. The promise is of the ys: the xs can turn back too, for weights
+ * below 0 above all.
+ *   Pinning. Where a written point fails nz_point_is_finite, every written point but the first and the last is the
+ * conic's middle point. That is a test of x * y, which overflows from about 1.8e19 on: (0,0), (1e20,1e20), (2e20,2e20),
+ * weight 0.7, is pinned.
+ *   Answers NZ_OK, NZ_LEVEL_TOO_HIGH or NZ_BUFFER_TOO_SHORT. */
+uint32_t nz_cut_in_order(const float *NZ_RESTRICT src, nz_len src_len, float weight, uint32_t level, float *NZ_RESTRICT out, nz_len out_len);
 
-/* The same by the test of tiny-skia-path, on a product, which may overflow or underflow: such a cut can turn back.
- * Answers 0, 1 or 2. */
-uint32_t nz_conic_chop_into_quads_pow2(const float *src, size_t src_len, float weight, uint32_t level, float *out, size_t out_len);
+/* The same, pinning too, by the test of tiny-skia-path, on a product, which may overflow or underflow: there is no promise
+ * on its order, and such a cut does turn back. The same answers. */
+uint32_t nz_conic_chop_into_quads_pow2(const float *NZ_RESTRICT src, nz_len src_len, float weight, uint32_t level, float *NZ_RESTRICT out, nz_len out_len);
 
-/* The level, from 1 to 4, at which the quads are within the tolerance of the conic. Answers 0, 2, 3 or 4. */
-uint32_t nz_conic_compute_quad_pow2(const float *src, size_t src_len, float weight, float tolerance, uint32_t *level);
+/* The level, from 1 to 4, at which the quads are within the tolerance of the conic. At 4 they need not be: that is the
+ * highest, given too where the error is larger ((0,0), (0,1024), (0,0), weight 0, tolerance 0.25) or NaN.
+ * Answers NZ_OK, NZ_BAD_TOLERANCE, NZ_BUFFER_TOO_SHORT or NZ_POINT_NOT_FINITE. */
+uint32_t nz_conic_compute_quad_pow2(const float *NZ_RESTRICT src, nz_len src_len, float weight, float tolerance, uint32_t *level);
 
 /* The cut of nz_conic_chop_into_quads_pow2 at the level for a tolerance of 0.25: 64 places for points, zero where none is
- * written, and the number of quads. Answers 0, 2 or 3. */
-uint32_t nz_auto_conic_to_quads(const float *src, size_t src_len, float weight, float out[128], size_t *quads);
+ * written, and the number of quads. Answers NZ_OK, NZ_BUFFER_TOO_SHORT or NZ_POINT_NOT_FINITE. */
+uint32_t nz_auto_conic_to_quads(const float *NZ_RESTRICT src, nz_len src_len, float weight, float out[128], nz_len *quads);
 
-/* Both halves of a conic as the formulas give them: three points and a weight for each, 7 numbers. Answers 0 or 2. */
-uint32_t nz_conic_chop(const float *src, size_t src_len, float weight, float halves[14]);
+/* Both halves of a conic as the formulas give them: three points and a weight for each, 7 numbers.
+ * Answers NZ_OK or NZ_BUFFER_TOO_SHORT. */
+uint32_t nz_conic_chop(const float *NZ_RESTRICT src, nz_len src_len, float weight, float halves[14]);
 
-/* Whether b lies between a and c, or equals one of them: by (a - b) * (c - b) <= 0 as it is computed, and exactly. */
+/* The between tests: (a - b) * (c - b) <= 0 as it is computed, and a <= b <= c or a >= b >= c. */
 bool nz_between_product(float a, float b, float c);
 bool nz_between_exact(float a, float b, float c);
 
 /* ---- quads and cubics: six and eight lent numbers ---- */
 
-/* The point at t, 0 <= t <= 1. Answers 0, 8 or 2. */
-uint32_t nz_eval_quad_at(const float *src, size_t src_len, float t, float out[2]);
-uint32_t nz_eval_cubic_pos_at(const float *src, size_t src_len, float t, float out[2]);
+/* The point at t, 0 <= t <= 1. Answers NZ_OK, NZ_OUT_OF_RANGE or NZ_BUFFER_TOO_SHORT. */
+uint32_t nz_eval_quad_at(const float *NZ_RESTRICT src, nz_len src_len, float t, float out[2]);
+uint32_t nz_eval_cubic_pos_at(const float *NZ_RESTRICT src, nz_len src_len, float t, float out[2]);
 
 /* The tangent at t, 0 <= t <= 1: of a quad as long as the derivative, of a cubic a third as long. At an end whose control
  * point coincides with it, a quad's is the chord, and a cubic's goes by the next control point, or else is the chord.
- * Answers 0, 8 or 2. */
-uint32_t nz_eval_quad_tangent_at(const float *src, size_t src_len, float t, float out[2]);
-uint32_t nz_eval_cubic_tangent_at(const float *src, size_t src_len, float t, float out[2]);
+ * The same answers. */
+uint32_t nz_eval_quad_tangent_at(const float *NZ_RESTRICT src, nz_len src_len, float t, float out[2]);
+uint32_t nz_eval_cubic_tangent_at(const float *NZ_RESTRICT src, nz_len src_len, float t, float out[2]);
 
-/* Cuts at t, 0 < t < 1, into two that share a point: 10 numbers for quads, 14 for cubics. Answers 0, 8 or 2. */
-uint32_t nz_chop_quad_at(const float *src, size_t src_len, float t, float *dst, size_t dst_len);
-uint32_t nz_chop_cubic_at2(const float *src, size_t src_len, float t, float *dst, size_t dst_len);
+/* Cuts at t, 0 < t < 1, into two that share a point: 10 numbers for quads, 14 for cubics. The same answers. */
+uint32_t nz_chop_quad_at(const float *NZ_RESTRICT src, nz_len src_len, float t, float *NZ_RESTRICT dst, nz_len dst_len);
+uint32_t nz_chop_cubic_at2(const float *NZ_RESTRICT src, nz_len src_len, float t, float *NZ_RESTRICT dst, nz_len dst_len);
 
-/* Where a quad's curvature is greatest: 0, 1 or between. Answers 0, 2 or 5. */
-uint32_t nz_find_quad_max_curvature(const float *src, size_t src_len, float *t);
+/* Where a quad's curvature is greatest: 0, 1 or between. Answers NZ_OK, NZ_BUFFER_TOO_SHORT or NZ_CURVATURE_UNDEFINED. */
+uint32_t nz_find_quad_max_curvature(const float *NZ_RESTRICT src, nz_len src_len, float *t);
 
-/* ---- roots, each strictly between 0 and 1: how many there are, and where, rising; the other places keep their contents ---- */
+/* ---- roots, each strictly between 0 and 1, rising ---- */
 
-/* numer / denom, if it lies between 0 and 1. Answers 0. */
-uint32_t nz_valid_unit_divide(float numer, float denom, float root[1], uint32_t *count);
+/* numer / denom, if it lies strictly between 0 and 1. Returns how many there are, 0 or 1. */
+uint32_t nz_valid_unit_divide(float numer, float denom, float *root);
 
-/* The roots of a * t^2 + b * t + c. Answers 0. */
-uint32_t nz_find_unit_quad_roots(float a, float b, float c, float roots[2], uint32_t *count);
+/* The roots of a * t^2 + b * t + c. Returns how many there are, 0 to 2. */
+uint32_t nz_find_unit_quad_roots(float a, float b, float c, float roots[2]);
 
-/* Where a quad or a cubic turns back along an axis on which its points are a, b, c (and d). Answers 0. */
-uint32_t nz_find_quad_extrema(float a, float b, float c, float root[1], uint32_t *count);
-uint32_t nz_find_cubic_extrema(float a, float b, float c, float d, float roots[2], uint32_t *count);
+/* Where a quad or a cubic turns back along an axis on which its points are a, b, c (and d). Returns in how many places. */
+uint32_t nz_find_quad_extrema(float a, float b, float c, float *root);
+uint32_t nz_find_cubic_extrema(float a, float b, float c, float d, float roots[2]);
 
-/* Where a cubic's curvature is zero. Answers 0 or 2. */
-uint32_t nz_find_cubic_inflections(const float *src, size_t src_len, float roots[2], uint32_t *count);
+/* Where a cubic's curvature is zero, and in how many places. Answers NZ_OK or NZ_BUFFER_TOO_SHORT. */
+uint32_t nz_find_cubic_inflections(const float *NZ_RESTRICT src, nz_len src_len, float roots[2], uint32_t *count);
 
 /* ---- transforms: six numbers sx, ky, kx, sy, tx, ty; (x, y) goes to (sx*x + kx*y + tx, ky*x + sy*y + ty) ---- */
 
-/* The matrices that do nothing, move, scale and skew. Answer 0. */
-uint32_t nz_transform_identity(float out[6]);
-uint32_t nz_transform_from_translate(float tx, float ty, float out[6]);
-uint32_t nz_transform_from_scale(float sx, float sy, float out[6]);
-uint32_t nz_transform_from_skew(float kx, float ky, float out[6]);
+/* The matrices that do nothing, move, scale and skew. */
+void nz_transform_identity(float out[6]);
+void nz_transform_from_translate(float tx, float ty, float out[6]);
+void nz_transform_from_scale(float sx, float sy, float out[6]);
+void nz_transform_from_skew(float kx, float ky, float out[6]);
 
-/* What b does and then a; what a does and then b. Answer 0. */
-uint32_t nz_transform_pre_concat(const float a[6], const float b[6], float out[6]);
-uint32_t nz_transform_post_concat(const float a[6], const float b[6], float out[6]);
+/* What b does and then a; what a does and then b. */
+void nz_transform_pre_concat(const float a[6], const float b[6], float out[6]);
+void nz_transform_post_concat(const float a[6], const float b[6], float out[6]);
 
-/* The same where one of the two scales, or moves: before m does what it does, or after. Answer 0. */
-uint32_t nz_transform_pre_scale(const float m[6], float sx, float sy, float out[6]);
-uint32_t nz_transform_post_scale(const float m[6], float sx, float sy, float out[6]);
-uint32_t nz_transform_pre_translate(const float m[6], float tx, float ty, float out[6]);
-uint32_t nz_transform_post_translate(const float m[6], float tx, float ty, float out[6]);
+/* The same where one of the two scales, or moves: before m does what it does, or after. */
+void nz_transform_pre_scale(const float m[6], float sx, float sy, float out[6]);
+void nz_transform_post_scale(const float m[6], float sx, float sy, float out[6]);
+void nz_transform_pre_translate(const float m[6], float tx, float ty, float out[6]);
+void nz_transform_post_translate(const float m[6], float tx, float ty, float out[6]);
 
 /* The matrix that undoes m. A matrix without skew is inverted unchecked: a scale of 0 gives infinities and NaN.
- * Answers 0, 6 or 7. */
+ * Answers NZ_OK, NZ_NEARLY_SINGULAR or NZ_INVERSE_NOT_FINITE. */
 uint32_t nz_transform_invert(const float m[6], float out[6]);
 
-/* Maps one point, or each point of a buffer, where it stands. Answer 0; the second answers 0 or 9. */
-uint32_t nz_transform_map_point(const float m[6], float point[2]);
-uint32_t nz_transform_map_numbers(const float m[6], float *numbers, size_t numbers_len);
+/* Maps one point where it stands. */
+void nz_transform_map_point(const float m[6], float point[2]);
+
+/* Maps each point of a buffer where it stands. Answers NZ_OK or NZ_ODD_LENGTH. */
+uint32_t nz_transform_map_numbers(const float m[6], float *NZ_RESTRICT numbers, nz_len numbers_len);
 
 /* What kind of matrix it is: `is_scale`, `is_skew` and `is_translate` ask that it does nothing else; `is_scale_translate`
- * that it does either or both and does not skew; `is_valid` that it is finite and scales by more than 2^-23 both ways. */
+ * that it does either or both and does not skew; `is_valid` that it is finite and that both numbers of get_scale are above
+ * 2^-23. */
 bool nz_transform_is_finite(const float m[6]);
 bool nz_transform_is_valid(const float m[6]);
 bool nz_transform_is_identity(const float m[6]);
@@ -131,8 +164,8 @@ bool nz_transform_has_scale(const float m[6]);
 bool nz_transform_has_skew(const float m[6]);
 bool nz_transform_has_translate(const float m[6]);
 
-/* How much it scales across and up: the lengths of (sx, kx) and (ky, sy). Answers 0. */
-uint32_t nz_transform_get_scale(const float m[6], float out[2]);
+/* The lengths of (sx, kx) and (ky, sy), as roots of sums of squares in float: 1e20 squared is infinite, 1e-30 squared is 0. */
+void nz_transform_get_scale(const float m[6], float out[2]);
 
 /* ---- the float ground ---- */
 

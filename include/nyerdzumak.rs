@@ -1,38 +1,59 @@
-// The library's calls for a Rust program that links it: `include!` this file, or name it by `#[path]`. What each call
-// does stands in nyerdzumak.h. A lent slice is a pointer that is not null and its length in numbers.
-extern "C" {
-    pub fn nz_cut_in_order(src: *const f32, src_len: usize, weight: f32, level: u32, out: *mut f32, out_len: usize) -> u32;
-    pub fn nz_conic_chop_into_quads_pow2(src: *const f32, src_len: usize, weight: f32, level: u32, out: *mut f32, out_len: usize) -> u32;
-    pub fn nz_conic_compute_quad_pow2(src: *const f32, src_len: usize, weight: f32, tolerance: f32, level: *mut u32) -> u32;
-    pub fn nz_auto_conic_to_quads(src: *const f32, src_len: usize, weight: f32, out: *mut [f32; 128], quads: *mut usize) -> u32;
-    pub fn nz_conic_chop(src: *const f32, src_len: usize, weight: f32, halves: *mut [f32; 14]) -> u32;
+// The library's calls for a Rust program that links it: `include!` this file, or name it by `#[path]`; it is taken by the
+// editions 2021 and 2024, from Rust 1.82 on. Link with `-L native=FOLDER -l static=nyerdzumak`. What each call does, and
+// what its caller owes it, stands in nyerdzumak.h. A lent slice is a pointer that is not null and its length in numbers.
+pub const NZ_VERSION: &str = "0.1.0";
+
+pub const NZ_OK: u32 = 0;
+pub const NZ_LEVEL_TOO_HIGH: u32 = 1;
+pub const NZ_BUFFER_TOO_SHORT: u32 = 2;
+pub const NZ_POINT_NOT_FINITE: u32 = 3;
+pub const NZ_BAD_TOLERANCE: u32 = 4;
+pub const NZ_CURVATURE_UNDEFINED: u32 = 5;
+pub const NZ_NEARLY_SINGULAR: u32 = 6;
+pub const NZ_INVERSE_NOT_FINITE: u32 = 7;
+pub const NZ_OUT_OF_RANGE: u32 = 8;
+pub const NZ_ODD_LENGTH: u32 = 9;
+
+pub const NZ_MAX_LEVEL: u32 = 4;
+
+// The room in numbers that a cut at a level needs.
+pub const fn nz_cut_room(level: u32) -> u64 {
+    2 * ((2 << level) + 1)
+}
+
+unsafe extern "C" {
+    pub fn nz_cut_in_order(src: *const f32, src_len: u64, weight: f32, level: u32, out: *mut f32, out_len: u64) -> u32;
+    pub fn nz_conic_chop_into_quads_pow2(src: *const f32, src_len: u64, weight: f32, level: u32, out: *mut f32, out_len: u64) -> u32;
+    pub fn nz_conic_compute_quad_pow2(src: *const f32, src_len: u64, weight: f32, tolerance: f32, level: *mut u32) -> u32;
+    pub fn nz_auto_conic_to_quads(src: *const f32, src_len: u64, weight: f32, out: *mut [f32; 128], quads: *mut u64) -> u32;
+    pub fn nz_conic_chop(src: *const f32, src_len: u64, weight: f32, halves: *mut [f32; 14]) -> u32;
     pub fn nz_between_product(a: f32, b: f32, c: f32) -> bool;
     pub fn nz_between_exact(a: f32, b: f32, c: f32) -> bool;
-    pub fn nz_eval_quad_at(src: *const f32, src_len: usize, t: f32, out: *mut [f32; 2]) -> u32;
-    pub fn nz_eval_cubic_pos_at(src: *const f32, src_len: usize, t: f32, out: *mut [f32; 2]) -> u32;
-    pub fn nz_eval_quad_tangent_at(src: *const f32, src_len: usize, t: f32, out: *mut [f32; 2]) -> u32;
-    pub fn nz_eval_cubic_tangent_at(src: *const f32, src_len: usize, t: f32, out: *mut [f32; 2]) -> u32;
-    pub fn nz_chop_quad_at(src: *const f32, src_len: usize, t: f32, dst: *mut f32, dst_len: usize) -> u32;
-    pub fn nz_chop_cubic_at2(src: *const f32, src_len: usize, t: f32, dst: *mut f32, dst_len: usize) -> u32;
-    pub fn nz_find_quad_max_curvature(src: *const f32, src_len: usize, t: *mut f32) -> u32;
-    pub fn nz_valid_unit_divide(numer: f32, denom: f32, root: *mut [f32; 1], count: *mut u32) -> u32;
-    pub fn nz_find_unit_quad_roots(a: f32, b: f32, c: f32, roots: *mut [f32; 2], count: *mut u32) -> u32;
-    pub fn nz_find_quad_extrema(a: f32, b: f32, c: f32, root: *mut [f32; 1], count: *mut u32) -> u32;
-    pub fn nz_find_cubic_extrema(a: f32, b: f32, c: f32, d: f32, roots: *mut [f32; 2], count: *mut u32) -> u32;
-    pub fn nz_find_cubic_inflections(src: *const f32, src_len: usize, roots: *mut [f32; 2], count: *mut u32) -> u32;
-    pub fn nz_transform_identity(out: *mut [f32; 6]) -> u32;
-    pub fn nz_transform_from_translate(tx: f32, ty: f32, out: *mut [f32; 6]) -> u32;
-    pub fn nz_transform_from_scale(sx: f32, sy: f32, out: *mut [f32; 6]) -> u32;
-    pub fn nz_transform_from_skew(kx: f32, ky: f32, out: *mut [f32; 6]) -> u32;
-    pub fn nz_transform_pre_concat(a: *const [f32; 6], b: *const [f32; 6], out: *mut [f32; 6]) -> u32;
-    pub fn nz_transform_post_concat(a: *const [f32; 6], b: *const [f32; 6], out: *mut [f32; 6]) -> u32;
-    pub fn nz_transform_pre_scale(m: *const [f32; 6], sx: f32, sy: f32, out: *mut [f32; 6]) -> u32;
-    pub fn nz_transform_post_scale(m: *const [f32; 6], sx: f32, sy: f32, out: *mut [f32; 6]) -> u32;
-    pub fn nz_transform_pre_translate(m: *const [f32; 6], tx: f32, ty: f32, out: *mut [f32; 6]) -> u32;
-    pub fn nz_transform_post_translate(m: *const [f32; 6], tx: f32, ty: f32, out: *mut [f32; 6]) -> u32;
+    pub fn nz_eval_quad_at(src: *const f32, src_len: u64, t: f32, out: *mut [f32; 2]) -> u32;
+    pub fn nz_eval_cubic_pos_at(src: *const f32, src_len: u64, t: f32, out: *mut [f32; 2]) -> u32;
+    pub fn nz_eval_quad_tangent_at(src: *const f32, src_len: u64, t: f32, out: *mut [f32; 2]) -> u32;
+    pub fn nz_eval_cubic_tangent_at(src: *const f32, src_len: u64, t: f32, out: *mut [f32; 2]) -> u32;
+    pub fn nz_chop_quad_at(src: *const f32, src_len: u64, t: f32, dst: *mut f32, dst_len: u64) -> u32;
+    pub fn nz_chop_cubic_at2(src: *const f32, src_len: u64, t: f32, dst: *mut f32, dst_len: u64) -> u32;
+    pub fn nz_find_quad_max_curvature(src: *const f32, src_len: u64, t: *mut f32) -> u32;
+    pub fn nz_valid_unit_divide(numer: f32, denom: f32, root: *mut f32) -> u32;
+    pub fn nz_find_unit_quad_roots(a: f32, b: f32, c: f32, roots: *mut [f32; 2]) -> u32;
+    pub fn nz_find_quad_extrema(a: f32, b: f32, c: f32, root: *mut f32) -> u32;
+    pub fn nz_find_cubic_extrema(a: f32, b: f32, c: f32, d: f32, roots: *mut [f32; 2]) -> u32;
+    pub fn nz_find_cubic_inflections(src: *const f32, src_len: u64, roots: *mut [f32; 2], count: *mut u32) -> u32;
+    pub fn nz_transform_identity(out: *mut [f32; 6]);
+    pub fn nz_transform_from_translate(tx: f32, ty: f32, out: *mut [f32; 6]);
+    pub fn nz_transform_from_scale(sx: f32, sy: f32, out: *mut [f32; 6]);
+    pub fn nz_transform_from_skew(kx: f32, ky: f32, out: *mut [f32; 6]);
+    pub fn nz_transform_pre_concat(a: *const [f32; 6], b: *const [f32; 6], out: *mut [f32; 6]);
+    pub fn nz_transform_post_concat(a: *const [f32; 6], b: *const [f32; 6], out: *mut [f32; 6]);
+    pub fn nz_transform_pre_scale(m: *const [f32; 6], sx: f32, sy: f32, out: *mut [f32; 6]);
+    pub fn nz_transform_post_scale(m: *const [f32; 6], sx: f32, sy: f32, out: *mut [f32; 6]);
+    pub fn nz_transform_pre_translate(m: *const [f32; 6], tx: f32, ty: f32, out: *mut [f32; 6]);
+    pub fn nz_transform_post_translate(m: *const [f32; 6], tx: f32, ty: f32, out: *mut [f32; 6]);
     pub fn nz_transform_invert(m: *const [f32; 6], out: *mut [f32; 6]) -> u32;
-    pub fn nz_transform_map_point(m: *const [f32; 6], point: *mut [f32; 2]) -> u32;
-    pub fn nz_transform_map_numbers(m: *const [f32; 6], numbers: *mut f32, numbers_len: usize) -> u32;
+    pub fn nz_transform_map_point(m: *const [f32; 6], point: *mut [f32; 2]);
+    pub fn nz_transform_map_numbers(m: *const [f32; 6], numbers: *mut f32, numbers_len: u64) -> u32;
     pub fn nz_transform_is_finite(m: *const [f32; 6]) -> bool;
     pub fn nz_transform_is_valid(m: *const [f32; 6]) -> bool;
     pub fn nz_transform_is_identity(m: *const [f32; 6]) -> bool;
@@ -43,7 +64,7 @@ extern "C" {
     pub fn nz_transform_has_scale(m: *const [f32; 6]) -> bool;
     pub fn nz_transform_has_skew(m: *const [f32; 6]) -> bool;
     pub fn nz_transform_has_translate(m: *const [f32; 6]) -> bool;
-    pub fn nz_transform_get_scale(m: *const [f32; 6], out: *mut [f32; 2]) -> u32;
+    pub fn nz_transform_get_scale(m: *const [f32; 6], out: *mut [f32; 2]);
     pub fn nz_is_finite_f32(x: f32) -> bool;
     pub fn nz_is_finite_f64(x: f64) -> bool;
     pub fn nz_point_is_finite(x: f32, y: f32) -> bool;

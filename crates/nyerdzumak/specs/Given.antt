@@ -1,48 +1,36 @@
--- What a call leaves in lent memory by its answer: the value, or what stood there where it is refused. Definitions only.
+-- What a call leaves in lent memory: the values of its answer, and what stood there where it has none (docs/RULES.md, "The C face"). Definitions only.
 use Prim.Native.Nat.{ℕ}
-use mathlib.Core.List.{List}
+use mathlib.Core.List.{List, [], _∷_}
 use lib.Ieee.{Float}
-use Rattle.point.specs.declared.Point.{Point}
-use Rattle.quads.specs.declared.PointAt.{PointAt}
-use Rattle.quads.specs.declared.PointAt.the-variants as P
-use Rattle.quads.specs.declared.quad.Curvature.{Curvature}
-use Rattle.quads.specs.declared.quad.Curvature.the-variants as C
-use Rattle.quads.specs.Answers.{evalAnswer}
-use Rattle.conic.specs.declared.Level.{Level}
-use Rattle.conic.specs.declared.Level.the-variants as L
+use Rattle.cubics.specs.declared.Inflections.{Inflections}
+use Rattle.cubics.specs.declared.Inflections.the-variants as I
+use Rattle.conic.specs.Source.{conicOf, refuseSource}
 use Rattle.conic_cut.specs.declared.Cut.{Cut}
-use Rattle.conic_cut.specs.declared.Cut.the-variants as Q
-use Rattle.transform.specs.declared.invert.Inversion.{Inversion}
-use Rattle.transform.specs.declared.invert.Inversion.the-variants.{Inverted, NearlySingular, NotFinite}
-use Rattle.nyerdzumak.specs.Lent.{pointNumbers, rowNumbers}
+use Rattle.conic_cut.specs.declared.Cut.the-variants.{Quads, Refused}
+use Rattle.conic_cut.specs.Auto.{autoAnswer}
 
-abbrev pub pointOr : List Float → PointAt → List Float
-pointOr l (P.At p) = pointNumbers p
-pointOr l P.OutOfRange = l
-pointOr l P.Short = l
+-- in one place
+abbrev pub firstOr : {A : Type 0} → A → List A → A
+firstOr x [] = x
+firstOr x (v ∷ vs) = v
 
--- an evaluation at t of a source of at least `need` numbers
-abbrev pub evalNumbers : ℕ → Float → List Float → List Float → Point → List Float
-evalNumbers need t src l p = pointOr l (evalAnswer need t src p)
+-- in an array that the values fill
+abbrev pub filledOr : List Float → List Float → List Float
+filledOr l [] = l
+filledOr l (v ∷ vs) = v ∷ vs
 
-abbrev pub curvatureOr : Float → Curvature → Float
-curvatureOr x (C.At t) = t
-curvatureOr x C.Undefined = x
-curvatureOr x C.Short = x
+-- how many there are, which none is too
+abbrev pub countOr : ℕ → Inflections → ℕ
+countOr n I.BufferTooShort = n
+countOr n I.None = 0
+countOr n (I.One r) = 1
+countOr n (I.Two r s) = 2
 
-abbrev pub levelOr : ℕ → Level → ℕ
-levelOr n (L.Pow2 k) = k
-levelOr n (L.Refused r) = n
-
+-- ---- `AutoConicToQuads`: its points stand beside its answer, and are given unless that is a refusal
 abbrev pub pointsOr : List Float → Cut → List Float → List Float
-pointsOr l (Q.Quads q) ps = ps
-pointsOr l (Q.Refused r) ps = l
+pointsOr l (Quads q) ps = ps
+pointsOr l (Refused r) ps = l
 
-abbrev pub quadsOr : ℕ → Cut → ℕ
-quadsOr n (Q.Quads q) = q
-quadsOr n (Q.Refused r) = n
-
-abbrev pub inverseOr : List Float → Inversion → List Float
-inverseOr l (Inverted t) = rowNumbers t
-inverseOr l NearlySingular = l
-inverseOr l NotFinite = l
+-- of a lent source
+abbrev pub autoFrom : List Float → Float → Cut
+autoFrom l w = refuseSource l Refused (autoAnswer (conicOf l w))

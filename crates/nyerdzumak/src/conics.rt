@@ -1,19 +1,19 @@
 // The conics' calls. A conic is six lent numbers, x and y of each point, and a weight.
 ghost use mathlib.Core.Path.{_≡_};
-ghost use mathlib.Core.Bool.{cond};
+ghost use mathlib.Core.List.{[], _∷_};
 ghost use Prim.Native.Nat.{_≤_};
 ghost use lib.Dec.{ltb};
 ghost use lib.ListN.{length};
 ghost use Rattle.conic.specs.declared.Rule.the-variants.{Product, Exact};
 ghost use Rattle.conic.specs.Between.{productTest, exactTest};
 ghost use Rattle.conic.specs.Chop.{chopOf, chopBy};
-ghost use Rattle.conic.specs.Level.{refuseLevel, levelAnswer};
-ghost use Rattle.conic.specs.Refusal.{numberOf, numberOfLevel};
-ghost use Rattle.conic.specs.Source.{conicOf};
-ghost use Rattle.conic_cut.specs.Auto.{autoAnswer, autoPoints};
-ghost use Rattle.conic_cut.specs.Cut.{refuse, cutBuffer, numberOfCut};
+ghost use Rattle.conic.specs.Level.{refuseLevel, levelOf};
+ghost use Rattle.conic.specs.Refusal.{numberOf, valuesOf, numberOfLevel, valuesOfLevel};
+ghost use Rattle.conic.specs.Source.{conicOf, refuseSource};
+ghost use Rattle.conic_cut.specs.Auto.{autoPoints};
+ghost use Rattle.conic_cut.specs.Cut.{refuse, cutBuffer, numberOfCut, valuesOfCut};
 ghost use Rattle.conic_cut.specs.Order.{OrderKept};
-ghost use Rattle.nyerdzumak.specs.Given.{levelOr, pointsOr, quadsOr};
+ghost use Rattle.nyerdzumak.specs.Given.{firstOr, filledOr, pointsOr, autoFrom};
 ghost use Rattle.nyerdzumak.specs.Lent.{halfNumbers};
 use conic::Conic;
 use conic::FromPoints;
@@ -22,7 +22,7 @@ use conic::Rule;
 use conic_cut::AutoConicToQuads;
 use conic_cut::Cut;
 
-// The crate's between test, on a product.
+// The crate's between test: whether (a - b) * (c - b) is at most 0, as it is computed.
 #[no_mangle]
 pub extern "C" fn nz_between_product(a: f32, b: f32, c: f32) -> bool
     ensures { λ r. ⌜ r ≡ productTest a b c ⌝ }
@@ -30,7 +30,7 @@ pub extern "C" fn nz_between_product(a: f32, b: f32, c: f32) -> bool
     conic::between_product(a, b, c)
 }
 
-// Whether b lies between a and c, or equals one of them.
+// Whether a ≤ b ≤ c or a ≥ b ≥ c.
 #[no_mangle]
 pub extern "C" fn nz_between_exact(a: f32, b: f32, c: f32) -> bool
     ensures { λ r. ⌜ r ≡ exactTest a b c ⌝ }
@@ -39,9 +39,8 @@ pub extern "C" fn nz_between_exact(a: f32, b: f32, c: f32) -> bool
 }
 
 // Stores both halves of a conic, seven numbers each.
-fn give_halves(c: Conic, halves: &mut [f32; 14]) -> u32
-    ensures { λ r. ⌜ r ≡ 0 ⌝ }
-    ensures halves { λ _. ⌜ now (halves .exit) ≡ halfNumbers (chopOf c) ⌝ }
+fn give_halves(c: Conic, halves: &mut [f32; 14])
+    ensures { λ _. ⌜ now (halves .exit) ≡ halfNumbers (chopOf c) ⌝ }
 {
     let h = c.chop();
     *halves = [
@@ -60,36 +59,41 @@ fn give_halves(c: Conic, halves: &mut [f32; 14]) -> u32
         h.second.p2.y,
         h.second.weight,
     ];
-    0
 }
 
 // Halves a conic as the formulas say, with no correction: x and y of three points and a weight, for each half.
 #[no_mangle]
 pub extern "C" fn nz_conic_chop(src: &[f32], weight: f32, halves: &mut [f32; 14]) -> u32
-    ensures { λ r. ⌜ r ≡ cond (ltb (length (now (src .entry))) 6) 2 0 ⌝ }
-    ensures halves { λ _. ⌜ now (halves .exit) ≡ cond (ltb (length (now (src .entry))) 6) (now (halves .entry)) (halfNumbers (chopOf (conicOf (now (src .entry)) weight))) ⌝ }
+    ensures { λ r. ⌜ r ≡ refuseSource (now (src .entry)) numberOf 0 ⌝ }
+    ensures halves { λ _. ⌜ now (halves .exit) ≡ filledOr (now (halves .entry)) (refuseSource (now (src .entry)) valuesOf (halfNumbers (chopOf (conicOf (now (src .entry)) weight)))) ⌝ }
 {
-    match Conic::from_points(src, weight) {
-        FromPoints::Made(c) => give_halves(c, halves),
-        FromPoints::Refused(why) => why.number(),
+    let answer = Conic::from_points(src, weight);
+    let number = answer.number();
+    match answer {
+        FromPoints::Made(c) => {
+            give_halves(c, halves);
+            number
+        }
+        FromPoints::Refused(_) => number,
     }
 }
 
 // Stores a level, if there is one; and the answer's number.
 fn give_level(answer: Level, level: &mut u32) -> u32
     ensures { λ r. ⌜ r ≡ numberOfLevel answer ⌝ }
-    ensures level { λ _. ⌜ now (level .exit) ≡ levelOr (now (level .entry)) answer ⌝ }
+    ensures level { λ _. ⌜ now (level .exit) ≡ firstOr (now (level .entry)) (valuesOfLevel answer) ⌝ }
 {
+    let number = answer.number();
     match answer {
         Level::Pow2(n) => {
             *level = n;
-            0
+            number
         }
-        Level::Refused(why) => why.number(),
+        Level::Refused(_) => number,
     }
 }
 
-// The level at which the quads are within the tolerance of the conic.
+// The level at which the quads are within the tolerance of the conic, 4 at most, where they need not be.
 #[no_mangle]
 pub extern "C" fn nz_conic_compute_quad_pow2(
     src: &[f32],
@@ -98,18 +102,9 @@ pub extern "C" fn nz_conic_compute_quad_pow2(
     level: &mut u32,
 ) -> u32
     ensures { λ r. ⌜ r ≡ refuseLevel (ltb (length (now (src .entry))) 6) (conicOf (now (src .entry)) weight) tolerance numberOf 0 ⌝ }
-    ensures level { λ _. ⌜ now (level .exit) ≡ levelOr (now (level .entry)) (levelAnswer (ltb (length (now (src .entry))) 6) (conicOf (now (src .entry)) weight) tolerance) ⌝ }
+    ensures level { λ _. ⌜ now (level .exit) ≡ firstOr (now (level .entry)) (refuseLevel (ltb (length (now (src .entry))) 6) (conicOf (now (src .entry)) weight) tolerance valuesOf (levelOf (conicOf (now (src .entry)) weight) tolerance ∷ [])) ⌝ }
 {
     give_level(Conic::compute_quad_pow2_from(src, weight, tolerance), level)
-}
-
-fn number_of_cut(answer: Cut) -> u32
-    ensures { λ r. ⌜ r ≡ numberOfCut answer ⌝ }
-{
-    match answer {
-        Cut::Quads(_) => 0,
-        Cut::Refused(why) => why.number(),
-    }
 }
 
 // Cuts a conic into 2^level quads by the crate's own between test.
@@ -123,34 +118,36 @@ pub extern "C" fn nz_conic_chop_into_quads_pow2(
     ensures { λ r. ⌜ r ≡ refuse level (length (now (out .entry))) (ltb (length (now (src .entry))) 6) numberOf 0 ⌝ }
     ensures buffer { λ _. ⌜ now (out .exit) ≡ cutBuffer (chopBy Product) level (conicOf (now (src .entry)) weight) (ltb (length (now (src .entry))) 6) (now (out .entry)) ⌝ }
 {
-    number_of_cut(conic_cut::chop_into_quads_pow2_from(out, Rule::Product, src, weight, level))
+    conic_cut::chop_into_quads_pow2_from(out, Rule::Product, src, weight, level).number()
 }
 
-// The same by the exact between test: the cut that never turns back.
+// The same by the exact between test. From three finite points whose middle y lies between the end ys or equals one, the
+// ys along the written points keep one direction, rising or falling, whatever the weight. Of the xs nothing is said.
 #[no_mangle]
 pub extern "C" fn nz_cut_in_order(src: &[f32], weight: f32, level: u32, out: &mut [f32]) -> u32
     ensures { λ r. ⌜ r ≡ refuse level (length (now (out .entry))) (ltb (length (now (src .entry))) 6) numberOf 0 ⌝ }
     ensures buffer { λ _. ⌜ now (out .exit) ≡ cutBuffer (chopBy Exact) level (conicOf (now (src .entry)) weight) (ltb (length (now (src .entry))) 6) (now (out .entry)) ⌝ }
     ensures order { λ _. ⌜ (6 ≤ length (now (src .entry)) → OrderKept Exact level (conicOf (now (src .entry)) weight) (now (out .entry)) (now (out .exit))) ⌝ }
 {
-    number_of_cut(conic_cut::chop_into_quads_pow2_from(out, Rule::Exact, src, weight, level))
+    conic_cut::chop_into_quads_pow2_from(out, Rule::Exact, src, weight, level).number()
 }
 
 // Stores a cut and how many quads it has, if there is one; and the answer's number.
 fn give_cut(cut: AutoConicToQuads, out: &mut [f32; 128], quads: &mut usize) -> u32
     ensures { λ r. ⌜ r ≡ numberOfCut (cut .answer) ⌝ }
     ensures out { λ _. ⌜ now (out .exit) ≡ pointsOr (now (out .entry)) (cut .answer) (cut .points) ⌝ }
-    ensures quads { λ _. ⌜ now (quads .exit) ≡ quadsOr (now (quads .entry)) (cut .answer) ⌝ }
+    ensures quads { λ _. ⌜ now (quads .exit) ≡ firstOr (now (quads .entry)) (valuesOfCut (cut .answer)) ⌝ }
 {
     let answer = cut.answer;
     let points = cut.points;
+    let number = answer.number();
     match answer {
         Cut::Quads(n) => {
             *out = points;
             *quads = n;
-            0
+            number
         }
-        Cut::Refused(why) => why.number(),
+        Cut::Refused(_) => number,
     }
 }
 
@@ -162,9 +159,9 @@ pub extern "C" fn nz_auto_conic_to_quads(
     out: &mut [f32; 128],
     quads: &mut usize,
 ) -> u32
-    ensures { λ r. ⌜ r ≡ cond (ltb (length (now (src .entry))) 6) 2 (numberOfCut (autoAnswer (conicOf (now (src .entry)) weight))) ⌝ }
-    ensures out { λ _. ⌜ now (out .exit) ≡ cond (ltb (length (now (src .entry))) 6) (now (out .entry)) (pointsOr (now (out .entry)) (autoAnswer (conicOf (now (src .entry)) weight)) (autoPoints (conicOf (now (src .entry)) weight))) ⌝ }
-    ensures quads { λ _. ⌜ now (quads .exit) ≡ cond (ltb (length (now (src .entry))) 6) (now (quads .entry)) (quadsOr (now (quads .entry)) (autoAnswer (conicOf (now (src .entry)) weight))) ⌝ }
+    ensures { λ r. ⌜ r ≡ numberOfCut (autoFrom (now (src .entry)) weight) ⌝ }
+    ensures out { λ _. ⌜ now (out .exit) ≡ pointsOr (now (out .entry)) (autoFrom (now (src .entry)) weight) (autoPoints (conicOf (now (src .entry)) weight)) ⌝ }
+    ensures quads { λ _. ⌜ now (quads .exit) ≡ firstOr (now (quads .entry)) (valuesOfCut (autoFrom (now (src .entry)) weight)) ⌝ }
 {
     match Conic::from_points(src, weight) {
         FromPoints::Made(c) => give_cut(

@@ -1,6 +1,5 @@
 // What kind of matrix it is: six lent numbers, in the order of `from_row`.
 ghost use mathlib.Core.Path.{_≡_};
-ghost use mathlib.Core.List.{[], _∷_};
 ghost use Rattle.transform.specs.Kinds as K;
 ghost use Rattle.nyerdzumak.specs.Lent.{matrixOf, scaleNumbers};
 use super::transforms::matrix;
@@ -85,13 +84,11 @@ pub extern "C" fn nz_transform_has_translate(m: &[f32; 6]) -> bool
     matrix(m).has_translate()
 }
 
-// How much it scales, across and up.
+// How much it scales, across and up: roots of sums of squares, which overflow and underflow as floats do.
 #[no_mangle]
-pub extern "C" fn nz_transform_get_scale(m: &[f32; 6], out: &mut [f32; 2]) -> u32
-    ensures { λ r. ⌜ r ≡ 0 ⌝ }
-    ensures out { λ _. ⌜ now (out .exit) ≡ scaleNumbers (K.scalesOf (matrixOf (now (m .entry)))) ⌝ }
+pub extern "C" fn nz_transform_get_scale(m: &[f32; 6], out: &mut [f32; 2])
+    ensures { λ _. ⌜ now (out .exit) ≡ scaleNumbers (K.scalesOf (matrixOf (now (m .entry)))) ⌝ }
 {
     let scale = matrix(m).get_scale();
     *out = [scale.x, scale.y];
-    0
 }

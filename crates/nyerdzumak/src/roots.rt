@@ -1,117 +1,76 @@
-// The calls that answer with roots: how many, and where. Places for which there is no root keep their contents.
+// The calls that answer with roots: how many, and where. A place for which there is no root keeps its contents.
 ghost use mathlib.Core.Path.{_≡_};
-ghost use mathlib.Core.Bool.{cond};
-ghost use lib.Dec.{ltb};
 ghost use lib.ListN.{length};
 ghost use lib.Seq.{sets};
-ghost use Rattle.quad_roots.specs.Roots.{dividedOf, rootsOf};
+ghost use Rattle.quad_roots.specs.Roots.{dividedOf, valuesOfDivided, rootsOf, valuesOfRoots};
 ghost use Rattle.quads.specs.Quads.{quadExtrema};
-ghost use Rattle.cubics.specs.Cubics.{cubicOf, cubicExtrema, cubicInflections};
-ghost use Rattle.nyerdzumak.specs.Found.{listOf, countOf, atMostOne, ofExtrema, ofInflections};
-use cubics::Extrema;
+ghost use Rattle.cubics.specs.Cubics.{cubicExtrema, numberOfInflections, valuesOfInflections, inflectionsAnswer, inflectionsNumber};
+ghost use Rattle.nyerdzumak.specs.Given.{firstOr, countOr};
 use cubics::Inflections;
 use quad_roots::Divided;
 use quad_roots::Roots;
 
-// Stores what was found.
-fn give(found: Roots, roots: &mut [f32; 2], count: &mut u32) -> u32
-    ensures { λ r. ⌜ r ≡ 0 ⌝ }
-    ensures roots { λ _. ⌜ now (roots .exit) ≡ sets (now (roots .entry)) 0 (listOf found) ⌝ }
-    ensures count { λ _. ⌜ now (count .exit) ≡ countOf found ⌝ }
+// Stores what was found, and says how many.
+fn give(found: Roots, roots: &mut [f32; 2]) -> u32
+    ensures { λ r. ⌜ r ≡ length (valuesOfRoots found) ⌝ }
+    ensures roots { λ _. ⌜ now (roots .exit) ≡ sets (now (roots .entry)) 0 (valuesOfRoots found) ⌝ }
 {
     match found {
-        Roots::None => {
-            *count = 0;
-        }
+        Roots::None => 0,
         Roots::One(r) => {
             roots[0] = r;
-            *count = 1;
+            1
         }
         Roots::Two(r, s) => {
             roots[0] = r;
             roots[1] = s;
-            *count = 2;
+            2
         }
     }
-    0
 }
 
 // The same of one root or none.
-fn give_one(found: Divided, root: &mut [f32; 1], count: &mut u32) -> u32
-    ensures { λ r. ⌜ r ≡ 0 ⌝ }
-    ensures root { λ _. ⌜ now (root .exit) ≡ sets (now (root .entry)) 0 (listOf (atMostOne found)) ⌝ }
-    ensures count { λ _. ⌜ now (count .exit) ≡ countOf (atMostOne found) ⌝ }
+fn give_one(found: Divided, root: &mut f32) -> u32
+    ensures { λ r. ⌜ r ≡ length (valuesOfDivided found) ⌝ }
+    ensures root { λ _. ⌜ now (root .exit) ≡ firstOr (now (root .entry)) (valuesOfDivided found) ⌝ }
 {
     match found {
-        Divided::None => {
-            *count = 0;
-        }
+        Divided::None => 0,
         Divided::One(r) => {
-            root[0] = r;
-            *count = 1;
+            *root = r;
+            1
         }
     }
-    0
 }
 
-// numer / denom, if it lies strictly between 0 and 1.
+// numer / denom, if it lies strictly between 0 and 1: how many there are, 0 or 1.
 #[no_mangle]
-pub extern "C" fn nz_valid_unit_divide(
-    numer: f32,
-    denom: f32,
-    root: &mut [f32; 1],
-    count: &mut u32,
-) -> u32
-    ensures { λ r. ⌜ r ≡ 0 ⌝ }
-    ensures root { λ _. ⌜ now (root .exit) ≡ sets (now (root .entry)) 0 (listOf (atMostOne (dividedOf numer denom))) ⌝ }
-    ensures count { λ _. ⌜ now (count .exit) ≡ countOf (atMostOne (dividedOf numer denom)) ⌝ }
+pub extern "C" fn nz_valid_unit_divide(numer: f32, denom: f32, root: &mut f32) -> u32
+    ensures { λ r. ⌜ r ≡ length (valuesOfDivided (dividedOf numer denom)) ⌝ }
+    ensures root { λ _. ⌜ now (root .exit) ≡ firstOr (now (root .entry)) (valuesOfDivided (dividedOf numer denom)) ⌝ }
 {
-    give_one(quad_roots::valid_unit_divide(numer, denom), root, count)
+    give_one(quad_roots::valid_unit_divide(numer, denom), root)
 }
 
-// The roots of a·t² + b·t + c that lie strictly between 0 and 1, rising.
+// The roots of a·t² + b·t + c that lie strictly between 0 and 1, rising: how many there are.
 #[no_mangle]
-pub extern "C" fn nz_find_unit_quad_roots(
-    a: f32,
-    b: f32,
-    c: f32,
-    roots: &mut [f32; 2],
-    count: &mut u32,
-) -> u32
-    ensures { λ r. ⌜ r ≡ 0 ⌝ }
-    ensures roots { λ _. ⌜ now (roots .exit) ≡ sets (now (roots .entry)) 0 (listOf (rootsOf a b c)) ⌝ }
-    ensures count { λ _. ⌜ now (count .exit) ≡ countOf (rootsOf a b c) ⌝ }
+pub extern "C" fn nz_find_unit_quad_roots(a: f32, b: f32, c: f32, roots: &mut [f32; 2]) -> u32
+    ensures { λ r. ⌜ r ≡ length (valuesOfRoots (rootsOf a b c)) ⌝ }
+    ensures roots { λ _. ⌜ now (roots .exit) ≡ sets (now (roots .entry)) 0 (valuesOfRoots (rootsOf a b c)) ⌝ }
 {
-    give(quad_roots::find_unit_quad_roots(a, b, c), roots, count)
+    give(quad_roots::find_unit_quad_roots(a, b, c), roots)
 }
 
-// Where a quad turns back along an axis on which its points are a, b and c.
+// Where a quad turns back along an axis on which its points are a, b and c: in how many places, 0 or 1.
 #[no_mangle]
-pub extern "C" fn nz_find_quad_extrema(
-    a: f32,
-    b: f32,
-    c: f32,
-    root: &mut [f32; 1],
-    count: &mut u32,
-) -> u32
-    ensures { λ r. ⌜ r ≡ 0 ⌝ }
-    ensures root { λ _. ⌜ now (root .exit) ≡ sets (now (root .entry)) 0 (listOf (atMostOne (quadExtrema a b c))) ⌝ }
-    ensures count { λ _. ⌜ now (count .exit) ≡ countOf (atMostOne (quadExtrema a b c)) ⌝ }
+pub extern "C" fn nz_find_quad_extrema(a: f32, b: f32, c: f32, root: &mut f32) -> u32
+    ensures { λ r. ⌜ r ≡ length (valuesOfDivided (quadExtrema a b c)) ⌝ }
+    ensures root { λ _. ⌜ now (root .exit) ≡ firstOr (now (root .entry)) (valuesOfDivided (quadExtrema a b c)) ⌝ }
 {
-    give_one(quads::quad::find_quad_extrema(a, b, c), root, count)
+    give_one(quads::find_quad_extrema(a, b, c), root)
 }
 
-fn of_extrema(found: Extrema) -> Roots
-    ensures { λ r. ⌜ r ≡ ofExtrema found ⌝ }
-{
-    match found {
-        Extrema::None => Roots::None,
-        Extrema::One(r) => Roots::One(r),
-        Extrema::Two(r, s) => Roots::Two(r, s),
-    }
-}
-
-// Where a cubic turns back along an axis on which its points are a, b, c and d.
+// Where a cubic turns back along an axis on which its points are a, b, c and d: in how many places.
 #[no_mangle]
 pub extern "C" fn nz_find_cubic_extrema(
     a: f32,
@@ -119,27 +78,37 @@ pub extern "C" fn nz_find_cubic_extrema(
     c: f32,
     d: f32,
     roots: &mut [f32; 2],
-    count: &mut u32,
 ) -> u32
-    ensures { λ r. ⌜ r ≡ 0 ⌝ }
-    ensures roots { λ _. ⌜ now (roots .exit) ≡ sets (now (roots .entry)) 0 (listOf (cubicExtrema a b c d)) ⌝ }
-    ensures count { λ _. ⌜ now (count .exit) ≡ countOf (cubicExtrema a b c d) ⌝ }
+    ensures { λ r. ⌜ r ≡ length (valuesOfRoots (cubicExtrema a b c d)) ⌝ }
+    ensures roots { λ _. ⌜ now (roots .exit) ≡ sets (now (roots .entry)) 0 (valuesOfRoots (cubicExtrema a b c d)) ⌝ }
 {
-    give(
-        of_extrema(cubics::find_cubic_extrema(a, b, c, d)),
-        roots,
-        count,
-    )
+    give(cubics::find_cubic_extrema(a, b, c, d), roots)
 }
 
-fn of_inflections(found: Inflections) -> Roots
-    ensures { λ r. ⌜ r ≡ ofInflections found ⌝ }
+// Stores what was found and how many, unless it is a refusal; and the answer's number.
+fn give_inflections(found: Inflections, roots: &mut [f32; 2], count: &mut u32) -> u32
+    ensures { λ r. ⌜ r ≡ numberOfInflections found ⌝ }
+    ensures roots { λ _. ⌜ now (roots .exit) ≡ sets (now (roots .entry)) 0 (valuesOfInflections found) ⌝ }
+    ensures count { λ _. ⌜ now (count .exit) ≡ countOr (now (count .entry)) found ⌝ }
 {
+    let number = found.number();
     match found {
-        Inflections::None => Roots::None,
-        Inflections::One(r) => Roots::One(r),
-        Inflections::Two(r, s) => Roots::Two(r, s),
-        Inflections::Short => Roots::None,
+        Inflections::None => {
+            *count = 0;
+            number
+        }
+        Inflections::One(r) => {
+            roots[0] = r;
+            *count = 1;
+            number
+        }
+        Inflections::Two(r, s) => {
+            roots[0] = r;
+            roots[1] = s;
+            *count = 2;
+            number
+        }
+        Inflections::BufferTooShort => number,
     }
 }
 
@@ -150,16 +119,9 @@ pub extern "C" fn nz_find_cubic_inflections(
     roots: &mut [f32; 2],
     count: &mut u32,
 ) -> u32
-    ensures { λ r. ⌜ r ≡ cond (ltb (length (now (src .entry))) 8) 2 0 ⌝ }
-    ensures roots { λ _. ⌜ now (roots .exit) ≡ cond (ltb (length (now (src .entry))) 8) (now (roots .entry)) (sets (now (roots .entry)) 0 (listOf (cubicInflections (cubicOf (now (src .entry)))))) ⌝ }
-    ensures count { λ _. ⌜ now (count .exit) ≡ cond (ltb (length (now (src .entry))) 8) (now (count .entry)) (countOf (cubicInflections (cubicOf (now (src .entry))))) ⌝ }
+    ensures { λ r. ⌜ r ≡ inflectionsNumber (now (src .entry)) ⌝ }
+    ensures roots { λ _. ⌜ now (roots .exit) ≡ sets (now (roots .entry)) 0 (valuesOfInflections (inflectionsAnswer (now (src .entry)))) ⌝ }
+    ensures count { λ _. ⌜ now (count .exit) ≡ countOr (now (count .entry)) (inflectionsAnswer (now (src .entry))) ⌝ }
 {
-    if src.len() < 8 {
-        return 2;
-    }
-    give(
-        of_inflections(cubics::find_cubic_inflections(src)),
-        roots,
-        count,
-    )
+    give_inflections(cubics::find_cubic_inflections(src), roots, count)
 }

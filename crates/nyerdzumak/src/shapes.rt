@@ -1,35 +1,26 @@
 // The calls on quads and cubics: lent numbers, x and y of each point, 6 for a quad and 8 for a cubic.
 ghost use mathlib.Core.Path.{_≡_};
-ghost use Rattle.quads.specs.Answers.{numberOfPoint, numberOfChop, evalNumber, chopNumber, chopBuffer};
-ghost use Rattle.quads.specs.Quads.{quadOf, quadAt, quadTangent, quadChop, numberOfCurvature, curvatureAnswer, curvatureNumber};
+ghost use Rattle.quads.specs.Answers.{numberOfPoint, valuesOfPoint, numberOfCurvature, valuesOfCurvature};
+ghost use Rattle.quads.specs.Answers.{evalNumber, evalValues, chopNumber, chopBuffer};
+ghost use Rattle.quads.specs.Quads.{quadOf, quadAt, quadTangent, quadChop, curvatureNumber, curvatureValues};
 ghost use Rattle.cubics.specs.Cubics.{cubicOf, cubicAt, cubicTangent, cubicChop};
-ghost use Rattle.nyerdzumak.specs.Given.{pointOr, evalNumbers, curvatureOr};
-use quads::Chopped;
+ghost use Rattle.nyerdzumak.specs.Given.{firstOr, filledOr};
+use quads::Curvature;
 use quads::PointAt;
-use quads::quad::Curvature;
 
 // Stores a point, if there is one; and the answer's number.
 fn give(answer: PointAt, out: &mut [f32; 2]) -> u32
     ensures { λ r. ⌜ r ≡ numberOfPoint answer ⌝ }
-    ensures out { λ _. ⌜ now (out .exit) ≡ pointOr (now (out .entry)) answer ⌝ }
+    ensures out { λ _. ⌜ now (out .exit) ≡ filledOr (now (out .entry)) (valuesOfPoint answer) ⌝ }
 {
+    let number = answer.number();
     match answer {
         PointAt::At(p) => {
             *out = [p.x, p.y];
-            0
+            number
         }
-        PointAt::OutOfRange => 8,
-        PointAt::Short => 2,
-    }
-}
-
-fn number_of(answer: Chopped) -> u32
-    ensures { λ r. ⌜ r ≡ numberOfChop answer ⌝ }
-{
-    match answer {
-        Chopped::Done => 0,
-        Chopped::OutOfRange => 8,
-        Chopped::Short => 2,
+        PointAt::OutOfRange => number,
+        PointAt::BufferTooShort => number,
     }
 }
 
@@ -37,25 +28,25 @@ fn number_of(answer: Chopped) -> u32
 #[no_mangle]
 pub extern "C" fn nz_eval_quad_at(src: &[f32], t: f32, out: &mut [f32; 2]) -> u32
     ensures { λ r. ⌜ r ≡ evalNumber 6 t (now (src .entry)) ⌝ }
-    ensures out { λ _. ⌜ now (out .exit) ≡ evalNumbers 6 t (now (src .entry)) (now (out .entry)) (quadAt (quadOf (now (src .entry))) t) ⌝ }
+    ensures out { λ _. ⌜ now (out .exit) ≡ filledOr (now (out .entry)) (evalValues 6 t (now (src .entry)) (quadAt (quadOf (now (src .entry))) t)) ⌝ }
 {
-    give(quads::quad::eval_quad_at(src, t), out)
+    give(quads::eval_quad_at(src, t), out)
 }
 
 // The tangent of a quad at t, as long as the derivative; at an end whose control point coincides with it, the chord.
 #[no_mangle]
 pub extern "C" fn nz_eval_quad_tangent_at(src: &[f32], t: f32, out: &mut [f32; 2]) -> u32
     ensures { λ r. ⌜ r ≡ evalNumber 6 t (now (src .entry)) ⌝ }
-    ensures out { λ _. ⌜ now (out .exit) ≡ evalNumbers 6 t (now (src .entry)) (now (out .entry)) (quadTangent (quadOf (now (src .entry))) t) ⌝ }
+    ensures out { λ _. ⌜ now (out .exit) ≡ filledOr (now (out .entry)) (evalValues 6 t (now (src .entry)) (quadTangent (quadOf (now (src .entry))) t)) ⌝ }
 {
-    give(quads::quad::eval_quad_tangent_at(src, t), out)
+    give(quads::eval_quad_tangent_at(src, t), out)
 }
 
 // The point of a cubic at t.
 #[no_mangle]
 pub extern "C" fn nz_eval_cubic_pos_at(src: &[f32], t: f32, out: &mut [f32; 2]) -> u32
     ensures { λ r. ⌜ r ≡ evalNumber 8 t (now (src .entry)) ⌝ }
-    ensures out { λ _. ⌜ now (out .exit) ≡ evalNumbers 8 t (now (src .entry)) (now (out .entry)) (cubicAt (cubicOf (now (src .entry))) t) ⌝ }
+    ensures out { λ _. ⌜ now (out .exit) ≡ filledOr (now (out .entry)) (evalValues 8 t (now (src .entry)) (cubicAt (cubicOf (now (src .entry))) t)) ⌝ }
 {
     give(cubics::eval_cubic_pos_at(src, t), out)
 }
@@ -65,7 +56,7 @@ pub extern "C" fn nz_eval_cubic_pos_at(src: &[f32], t: f32, out: &mut [f32; 2]) 
 #[no_mangle]
 pub extern "C" fn nz_eval_cubic_tangent_at(src: &[f32], t: f32, out: &mut [f32; 2]) -> u32
     ensures { λ r. ⌜ r ≡ evalNumber 8 t (now (src .entry)) ⌝ }
-    ensures out { λ _. ⌜ now (out .exit) ≡ evalNumbers 8 t (now (src .entry)) (now (out .entry)) (cubicTangent (cubicOf (now (src .entry))) t) ⌝ }
+    ensures out { λ _. ⌜ now (out .exit) ≡ filledOr (now (out .entry)) (evalValues 8 t (now (src .entry)) (cubicTangent (cubicOf (now (src .entry))) t)) ⌝ }
 {
     give(cubics::eval_cubic_tangent_at(src, t), out)
 }
@@ -76,7 +67,7 @@ pub extern "C" fn nz_chop_quad_at(src: &[f32], t: f32, dst: &mut [f32]) -> u32
     ensures { λ r. ⌜ r ≡ chopNumber 6 10 t (now (src .entry)) (now (dst .entry)) ⌝ }
     ensures buffer { λ _. ⌜ now (dst .exit) ≡ chopBuffer 6 10 t (now (src .entry)) (now (dst .entry)) (quadChop (quadOf (now (src .entry))) t) ⌝ }
 {
-    number_of(quads::quad::chop_quad_at(src, t, dst))
+    quads::chop_quad_at(src, t, dst).number()
 }
 
 // Cuts a cubic at t, and stores the seven points of the two cubics.
@@ -85,21 +76,22 @@ pub extern "C" fn nz_chop_cubic_at2(src: &[f32], t: f32, dst: &mut [f32]) -> u32
     ensures { λ r. ⌜ r ≡ chopNumber 8 14 t (now (src .entry)) (now (dst .entry)) ⌝ }
     ensures buffer { λ _. ⌜ now (dst .exit) ≡ chopBuffer 8 14 t (now (src .entry)) (now (dst .entry)) (cubicChop (cubicOf (now (src .entry))) t) ⌝ }
 {
-    number_of(cubics::chop_cubic_at2(src, t, dst))
+    cubics::chop_cubic_at2(src, t, dst).number()
 }
 
 // Stores where the curvature is greatest, if that is a number; and the answer's number.
 fn give_curvature(answer: Curvature, t: &mut f32) -> u32
     ensures { λ r. ⌜ r ≡ numberOfCurvature answer ⌝ }
-    ensures t { λ _. ⌜ now (t .exit) ≡ curvatureOr (now (t .entry)) answer ⌝ }
+    ensures t { λ _. ⌜ now (t .exit) ≡ firstOr (now (t .entry)) (valuesOfCurvature answer) ⌝ }
 {
+    let number = answer.number();
     match answer {
         Curvature::At(u) => {
             *t = u;
-            0
+            number
         }
-        Curvature::Undefined => 5,
-        Curvature::Short => 2,
+        Curvature::Undefined => number,
+        Curvature::BufferTooShort => number,
     }
 }
 
@@ -107,7 +99,7 @@ fn give_curvature(answer: Curvature, t: &mut f32) -> u32
 #[no_mangle]
 pub extern "C" fn nz_find_quad_max_curvature(src: &[f32], t: &mut f32) -> u32
     ensures { λ r. ⌜ r ≡ curvatureNumber (now (src .entry)) ⌝ }
-    ensures t { λ _. ⌜ now (t .exit) ≡ curvatureOr (now (t .entry)) (curvatureAnswer (now (src .entry))) ⌝ }
+    ensures t { λ _. ⌜ now (t .exit) ≡ firstOr (now (t .entry)) (curvatureValues (now (src .entry))) ⌝ }
 {
-    give_curvature(quads::quad::find_quad_max_curvature(src), t)
+    give_curvature(quads::find_quad_max_curvature(src), t)
 }
