@@ -1,29 +1,27 @@
--- What the contracts of the cubic's calls cite: the Rust's formulas, operation by operation. Definitions only.
+-- What the contracts of the cubic's calls cite: the Rust's formulas, operation by operation (docs/RULES.md, "Quads and cubics"). Definitions only.
 use Prim.Native.Nat.{ℕ}
 use mathlib.Core.Bool.{cond, _&&_, _||_}
 use mathlib.Core.List.{List, [], _∷_}
-use lib.Dec.{ltb}
-use lib.ListN.{length}
 use lib.Ieee.{Float, eq}
+use Rattle.float_laws.specs.Formula.{_⊕_, _⊖_, _⊗_, zero32, one32, two32, three32}
 use Rattle.point.specs.declared.Point.{Point}
+use Rattle.point.specs.Numbers.{flat, pointAt}
+use Rattle.point.specs.Point.{pointFrom}
 use Rattle.quad_roots.specs.declared.Roots.{Roots}
 use Rattle.quad_roots.specs.declared.Roots.the-variants as R
 use Rattle.quad_roots.specs.Roots.{rootsOf}
+use Rattle.quads.specs.Answers.{shortPick}
+use Rattle.quads.specs.Steps.{times2, squareAt, same, minus, interp}
 use Rattle.cubics.specs.declared.Cubic.{Cubic}
-use Rattle.cubics.specs.declared.Extrema.{Extrema}
-use Rattle.cubics.specs.declared.Extrema.the-variants as E
 use Rattle.cubics.specs.declared.Inflections.{Inflections}
-use Rattle.cubics.specs.declared.Inflections.the-variants as I
-use Rattle.point.specs.Numbers.{flat}
-use Rattle.quads.specs.Lent.{pointOf}
-use Rattle.quads.specs.Steps.{_⊕_, _⊖_, _⊗_, zero32, one32, two32, three32, times2, squareAt, same, minus, interp}
+use Rattle.cubics.specs.declared.Inflections.the-variants.{None, One, Two, BufferTooShort}
 
 abbrev pub cubicOf : List Float → Cubic
-cubicOf l = record { p0 = pointOf l 0; p1 = pointOf l 2; p2 = pointOf l 4; p3 = pointOf l 6 }
+cubicOf l = record { p0 = pointAt l 0; p1 = pointAt l 2; p2 = pointAt l 4; p3 = pointAt l 6 }
 
 -- a formula along both axes
 abbrev pub axes : (Float → Float → Float → Float → Float) → Cubic → Point
-axes f q = record { x = f (q .p0 .x) (q .p1 .x) (q .p2 .x) (q .p3 .x); y = f (q .p0 .y) (q .p1 .y) (q .p2 .y) (q .p3 .y) }
+axes f q = pointFrom (f (q .p0 .x) (q .p1 .x) (q .p2 .x) (q .p3 .x)) (f (q .p0 .y) (q .p1 .y) (q .p2 .y) (q .p3 .y))
 
 -- the coefficient of t³
 abbrev pub leading : Float → Float → Float → Float → Float
@@ -63,30 +61,9 @@ cubicChop q t =
     let bcd = interp bc cd t in
     flat (q .p0 ∷ ab ∷ abc ∷ interp abc bcd t ∷ bcd ∷ cd ∷ q .p3 ∷ [])
 
--- ---- extrema and inflections: the roots of a quadratic, if there are any. "None" is an answer and no refusal
-abbrev pub numberOfExtrema : Extrema → ℕ
-numberOfExtrema E.None = 0
-numberOfExtrema (E.One t) = 0
-numberOfExtrema (E.Two t u) = 0
-
-abbrev pub extremaOf : Roots → Extrema
-extremaOf R.None = E.None
-extremaOf (R.One t) = E.One t
-extremaOf (R.Two t u) = E.Two t u
-
+-- ---- extrema and inflections: the roots of a quadratic, if there are any
 abbrev pub cubicExtrema : Float → Float → Float → Float → Roots
 cubicExtrema a b c d = rootsOf (d ⊖ a ⊕ three32 ⊗ (b ⊖ c)) (two32 ⊗ (a ⊖ b ⊖ b ⊕ c)) (b ⊖ a)
-
-abbrev pub numberOfInflections : Inflections → ℕ
-numberOfInflections I.None = 0
-numberOfInflections (I.One t) = 0
-numberOfInflections (I.Two t u) = 0
-numberOfInflections I.Short = 2
-
-abbrev pub inflectionsOf : Roots → Inflections
-inflectionsOf R.None = I.None
-inflectionsOf (R.One t) = I.One t
-inflectionsOf (R.Two t u) = I.Two t u
 
 abbrev pub cross : Point → Point → Float
 cross p q = p .x ⊗ q .y ⊖ p .y ⊗ q .x
@@ -98,8 +75,26 @@ cubicInflections q =
     let c = axes leading q in
     rootsOf (cross b c) (cross a c) (cross a b)
 
+-- the answer's number and values (docs/RULES.md, "Answer numbers" and "Roots"): no root is an answer, not a refusal
+abbrev pub numberOfInflections : Inflections → ℕ
+numberOfInflections None = 0
+numberOfInflections (One t) = 0
+numberOfInflections (Two t u) = 0
+numberOfInflections BufferTooShort = 2
+
+abbrev pub valuesOfInflections : Inflections → List Float
+valuesOfInflections None = []
+valuesOfInflections (One t) = t ∷ []
+valuesOfInflections (Two t u) = t ∷ u ∷ []
+valuesOfInflections BufferTooShort = []
+
+abbrev pub inflectionsOf : Roots → Inflections
+inflectionsOf R.None = None
+inflectionsOf (R.One t) = One t
+inflectionsOf (R.Two t u) = Two t u
+
 abbrev pub inflectionsAnswer : List Float → Inflections
-inflectionsAnswer l = cond (ltb (length l) 8) I.Short (inflectionsOf (cubicInflections (cubicOf l)))
+inflectionsAnswer l = shortPick 8 l BufferTooShort (inflectionsOf (cubicInflections (cubicOf l)))
 
 abbrev pub inflectionsNumber : List Float → ℕ
-inflectionsNumber l = cond (ltb (length l) 8) 2 0
+inflectionsNumber l = shortPick 8 l 2 0

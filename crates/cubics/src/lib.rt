@@ -3,7 +3,9 @@
 ghost use mathlib.Core.Path.{_≡_};
 ghost use Prim.Native.Nat.{_≤_};
 ghost use lib.ListN.{length};
-ghost use Rattle.quads.specs.Answers.{numberOfPoint, evalNumber, evalAnswer, numberOfChop, chopNumber, chopAnswer, chopBuffer};
+ghost use Rattle.quad_roots.specs.Roots.{numberOfRoots, valuesOfRoots, Rising};
+ghost use Rattle.quads.specs.Answers.{numberOfPoint, valuesOfPoint, evalNumber, evalAnswer, evalValues};
+ghost use Rattle.quads.specs.Answers.{numberOfChop, chopNumber, chopAnswer, chopBuffer};
 ghost use Rattle.cubics.specs.Cubics as C;
 use point::Point;
 use quad_roots::Roots;
@@ -19,19 +21,26 @@ pub struct Cubic {
     pub p3: Point,
 }
 
-// What the search for extrema answers.
-pub enum Extrema {
-    None,
-    One(f32),
-    Two(f32, f32),
-}
-
 // What the search for inflections answers.
 pub enum Inflections {
     None,
     One(f32),
     Two(f32, f32),
-    Short,
+    BufferTooShort,
+}
+
+impl Inflections {
+    // Its number in the table of answers.
+    pub fn number(self) -> u32
+        ensures { λ r. ⌜ r ≡ C.numberOfInflections self ⌝ }
+    {
+        match self {
+            Inflections::None => 0,
+            Inflections::One(_) => 0,
+            Inflections::Two(_, _) => 0,
+            Inflections::BufferTooShort => 2,
+        }
+    }
 }
 
 // The coefficient of t³, along one axis.
@@ -146,6 +155,7 @@ impl Cubic {
     // Where the curvature is zero.
     fn inflections(self) -> Roots
         ensures { λ r. ⌜ r ≡ C.cubicInflections self ⌝ }
+        ensures inside { λ r. ⌜ Rising (valuesOfRoots r) ⌝ }
     {
         let a = steps::minus(self.p1, self.p0);
         let b = Point {
@@ -189,12 +199,13 @@ fn cubic_of(src: &[f32]) -> Cubic
 pub fn eval_cubic_pos_at(src: &[f32], t: f32) -> PointAt
     ensures { λ r. ⌜ r ≡ evalAnswer 8 t (now (src .entry)) (C.cubicAt (C.cubicOf (now (src .entry))) t) ⌝ }
     ensures number { λ r. ⌜ numberOfPoint r ≡ evalNumber 8 t (now (src .entry)) ⌝ }
+    ensures values { λ r. ⌜ valuesOfPoint r ≡ evalValues 8 t (now (src .entry)) (C.cubicAt (C.cubicOf (now (src .entry))) t) ⌝ }
 {
     if steps::outside_unit(t) {
         return PointAt::OutOfRange;
     }
     if src.len() < 8 {
-        return PointAt::Short;
+        return PointAt::BufferTooShort;
     }
     PointAt::At(cubic_of(src).at(t))
 }
@@ -204,12 +215,13 @@ pub fn eval_cubic_pos_at(src: &[f32], t: f32) -> PointAt
 pub fn eval_cubic_tangent_at(src: &[f32], t: f32) -> PointAt
     ensures { λ r. ⌜ r ≡ evalAnswer 8 t (now (src .entry)) (C.cubicTangent (C.cubicOf (now (src .entry))) t) ⌝ }
     ensures number { λ r. ⌜ numberOfPoint r ≡ evalNumber 8 t (now (src .entry)) ⌝ }
+    ensures values { λ r. ⌜ valuesOfPoint r ≡ evalValues 8 t (now (src .entry)) (C.cubicTangent (C.cubicOf (now (src .entry))) t) ⌝ }
 {
     if steps::outside_unit(t) {
         return PointAt::OutOfRange;
     }
     if src.len() < 8 {
-        return PointAt::Short;
+        return PointAt::BufferTooShort;
     }
     PointAt::At(cubic_of(src).tangent_at(t))
 }
@@ -224,36 +236,38 @@ pub fn chop_cubic_at2(src: &[f32], t: f32, dst: &mut [f32]) -> Chopped
         return Chopped::OutOfRange;
     }
     if src.len() < 8 {
-        return Chopped::Short;
+        return Chopped::BufferTooShort;
     }
     let new = cubic_of(src).chop_at2(t);
     lent::store(dst, &new)
 }
 
 // Where a cubic turns back along an axis on which its points are a, b, c and d.
-pub fn find_cubic_extrema(a: f32, b: f32, c: f32, d: f32) -> Extrema
-    ensures { λ r. ⌜ r ≡ C.extremaOf (C.cubicExtrema a b c d) ⌝ }
-    ensures number { λ r. ⌜ C.numberOfExtrema r ≡ 0 ⌝ }
+pub fn find_cubic_extrema(a: f32, b: f32, c: f32, d: f32) -> Roots
+    ensures { λ r. ⌜ r ≡ C.cubicExtrema a b c d ⌝ }
+    ensures number { λ r. ⌜ numberOfRoots r ≡ 0 ⌝ }
+    ensures inside { λ r. ⌜ Rising (valuesOfRoots r) ⌝ }
 {
     let aa = d - a + 3.0 * (b - c);
     let bb = 2.0 * (a - b - b + c);
     let roots = quad_roots::find_unit_quad_roots(aa, bb, b - a);
     if let Roots::One(t) = roots {
-        return Extrema::One(t);
+        return Roots::One(t);
     }
     let Roots::Two(t, u) = roots else {
-        return Extrema::None;
+        return Roots::None;
     };
-    Extrema::Two(t, u)
+    Roots::Two(t, u)
 }
 
 // Where the curvature is zero.
 pub fn find_cubic_inflections(src: &[f32]) -> Inflections
     ensures { λ r. ⌜ r ≡ C.inflectionsAnswer (now (src .entry)) ⌝ }
     ensures number { λ r. ⌜ C.numberOfInflections r ≡ C.inflectionsNumber (now (src .entry)) ⌝ }
+    ensures inside { λ r. ⌜ Rising (C.valuesOfInflections r) ⌝ }
 {
     if src.len() < 8 {
-        return Inflections::Short;
+        return Inflections::BufferTooShort;
     }
     let roots = cubic_of(src).inflections();
     if let Roots::One(t) = roots {

@@ -2,7 +2,6 @@
 use super::print;
 use conic::Conic;
 use conic::Level;
-use conic::Refusal;
 use conic::Rule;
 use conic_cut::Cut;
 
@@ -10,11 +9,6 @@ use conic_cut::Cut;
 const BEND: [f32; 6] = [0.0, 0.0, 4.0, 0.0, 4.0, 4.0];
 
 const BACK: [f32; 6] = [0.0, 0.0, 0.0, 8.0, 0.0, 0.0];
-
-fn refusal(r: Refusal) {
-    print::text(b" refusal");
-    print::count(r.number() as u64);
-}
 
 fn yes(is: bool) {
     if is {
@@ -38,7 +32,7 @@ fn level(name: &[u8], y: f32, tolerance: f32) {
     print::text(name);
     match Conic::compute_quad_pow2_from(&[0.0, 0.0, 0.0, y, 0.0, 0.0], 0.0, tolerance) {
         Level::Pow2(n) => print::count(n as u64),
-        Level::Refused(r) => refusal(r),
+        Level::Refused(r) => print::refusal(r.number()),
     }
     print::end();
 }
@@ -59,7 +53,7 @@ fn cut(name: &[u8], out: &mut [f32], rule: Rule, src: &[f32], weight: f32, level
             print::count(n as u64);
             numbers(out);
         }
-        Cut::Refused(r) => refusal(r),
+        Cut::Refused(r) => print::refusal(r.number()),
     }
     print::end();
 }

@@ -2,9 +2,8 @@
 use super::print;
 use quad_roots::Divided;
 use quad_roots::Roots;
+use quads::Curvature;
 use quads::PointAt;
-use quads::quad;
-use quads::quad::Curvature;
 
 fn divide(name: &[u8], numer: f32, denom: f32) {
     print::text(name);
@@ -31,25 +30,22 @@ fn roots(name: &[u8], a: f32, b: f32, c: f32) {
 // The parameter of the maximum curvature and the point there, or the refusal's number.
 fn curvature(name: &[u8], src: &[f32]) {
     print::text(name);
-    match quad::find_quad_max_curvature(src) {
-        Curvature::At(t) => {
-            print::number(t);
-            point(quad::eval_quad_at(src, t));
-        }
-        Curvature::Undefined => print::text(b" refusal 5"),
-        Curvature::Short => print::text(b" refusal 2"),
+    let answer = quads::find_quad_max_curvature(src);
+    if let Curvature::At(t) = answer {
+        print::number(t);
+        point(quads::eval_quad_at(src, t));
+    } else {
+        print::refusal(answer.number());
     }
     print::end();
 }
 
-fn point(at: PointAt) {
-    match at {
-        PointAt::At(p) => {
-            print::number(p.x);
-            print::number(p.y);
-        }
-        PointAt::OutOfRange => print::text(b" refusal 8"),
-        PointAt::Short => print::text(b" refusal 2"),
+fn point(answer: PointAt) {
+    if let PointAt::At(p) = answer {
+        print::number(p.x);
+        print::number(p.y);
+    } else {
+        print::refusal(answer.number());
     }
 }
 

@@ -1,4 +1,4 @@
-// Prints the figures that the scope document asks to check, one to a line: what is asked, then the answer.
+// Prints the figures of docs/RULES.md, "Figures", one to a line: what is asked, then the answer.
 mod conics;
 mod curves;
 mod ground;

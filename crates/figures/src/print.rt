@@ -26,6 +26,12 @@ pub fn count(n: u64) {
     io::print_decimal(STDOUT_FILENO, n);
 }
 
+// Writes the number of a refusal.
+pub fn refusal(number: u32) {
+    text(b" refusal");
+    count(number as u64);
+}
+
 // Ends the line.
 pub fn end() {
     text(b"\n");

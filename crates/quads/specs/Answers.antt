@@ -71,3 +71,7 @@ chopAnswer need room t src dst = chopPick need room t src dst C.OutOfRange C.Buf
 
 abbrev pub chopBuffer : ℕ → ℕ → Float → List Float → List Float → List Float → List Float
 chopBuffer need room t src dst new = chopPick need room t src dst dst dst (sets dst 0 new)
+
+-- a store of the points `new` over the first of `dst`
+abbrev pub storePick : {A : Type 0} → List Float → List Float → A → A → A
+storePick dst new = shortPick (length new) dst

@@ -23,8 +23,9 @@ unbounded c =
     let f = c .before .is-finite-f32 in
     let r = c .before .before in
     let d = r .before .before in
+    let no = not-true (f .result) (c .if3 .taken) in
     roots-promised _ _ _
-    (rw (d .before .if1 .left, ← d .discriminant .ensures, r .before .if2 .left, ← r .root .ensures, ← f .ensures, not-true (f .result) (c .if3 .taken)))
+    (rw (d .before .if1 .left, ← d .discriminant .ensures, r .before .if2 .left, ← r .root .ensures, ← f .ensures, no))
 
 both : tie.Need-returns-4
 unfolding rootsOf
@@ -33,8 +34,9 @@ both c =
     let f = s .before .is-finite-f32 in
     let r = s .before .before in
     let d = r .before .before in
+    let yes = not-false (f .result) (s .if3 .left) in
     roots-promised _ _ _
-    (rw (d .before .if1 .left, ← d .discriminant .ensures, r .before .if2 .left, ← r .root .ensures, ← f .ensures, not-false (f .result) (s .if3 .left)) (cc))
+    (rw (d .before .if1 .left, ← d .discriminant .ensures, r .before .if2 .left, ← r .root .ensures, ← f .ensures, yes) (cc))
 
 pub find-unit-quad-roots-spec : {M : Type 1} → statement M
 find-unit-quad-roots-spec =

@@ -5,8 +5,13 @@ use Rattle.quad_roots.proofs.Asks.{nothing}
 use Rattle.cubics.proofs.Cubic.chop_at2.Statement.{statement}
 use Rattle.cubics.proofs.Cubic.chop_at2.Tie as tie
 
-pub chop-at2-spec : {M : Type 1} → statement M
+points : tie.Need-returns
 unfolding cubicChop flat
-chop-at2-spec =
-    tie.close (tie.spec nothing nothing nothing nothing nothing nothing
-    (λ c. rw (c .interp6 .ensures, c .before .interp5 .ensures, c .before .before .interp4 .ensures, c .before .before .before .interp3 .ensures, c .before .before .before .before .interp2 .ensures, c .before .before .before .before .before .interp .ensures)))
+points c =
+    let abc = c .before .before in
+    let cd = abc .before in
+    rw (c .interp6 .ensures, c .before .interp5 .ensures, abc .interp4 .ensures, cd .interp3 .ensures)
+    (rw (cd .before .interp2 .ensures, cd .before .before .interp .ensures))
+
+pub chop-at2-spec : {M : Type 1} → statement M
+chop-at2-spec = tie.close (tie.spec nothing nothing nothing nothing nothing nothing points)
