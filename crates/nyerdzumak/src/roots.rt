@@ -15,16 +15,17 @@ fn give(found: Roots, roots: &mut [f32; 2]) -> u32
     ensures { λ r. ⌜ r ≡ length (valuesOfRoots found) ⌝ }
     ensures roots { λ _. ⌜ now (roots .exit) ≡ sets (now (roots .entry)) 0 (valuesOfRoots found) ⌝ }
 {
+    let count = found.count();
     match found {
-        Roots::None => 0,
+        Roots::None => count,
         Roots::One(r) => {
             roots[0] = r;
-            1
+            count
         }
         Roots::Two(r, s) => {
             roots[0] = r;
             roots[1] = s;
-            2
+            count
         }
     }
 }
@@ -34,11 +35,12 @@ fn give_one(found: Divided, root: &mut f32) -> u32
     ensures { λ r. ⌜ r ≡ length (valuesOfDivided found) ⌝ }
     ensures root { λ _. ⌜ now (root .exit) ≡ firstOr (now (root .entry)) (valuesOfDivided found) ⌝ }
 {
+    let count = found.count();
     match found {
-        Divided::None => 0,
+        Divided::None => count,
         Divided::One(r) => {
             *root = r;
-            1
+            count
         }
     }
 }
@@ -72,13 +74,7 @@ pub extern "C" fn nz_find_quad_extrema(a: f32, b: f32, c: f32, root: &mut f32) -
 
 // Where a cubic turns back along an axis on which its points are a, b, c and d: in how many places.
 #[no_mangle]
-pub extern "C" fn nz_find_cubic_extrema(
-    a: f32,
-    b: f32,
-    c: f32,
-    d: f32,
-    roots: &mut [f32; 2],
-) -> u32
+pub extern "C" fn nz_find_cubic_extrema(a: f32, b: f32, c: f32, d: f32, roots: &mut [f32; 2]) -> u32
     ensures { λ r. ⌜ r ≡ length (valuesOfRoots (cubicExtrema a b c d)) ⌝ }
     ensures roots { λ _. ⌜ now (roots .exit) ≡ sets (now (roots .entry)) 0 (valuesOfRoots (cubicExtrema a b c d)) ⌝ }
 {

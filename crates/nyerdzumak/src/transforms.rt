@@ -92,12 +92,7 @@ pub extern "C" fn nz_transform_post_scale(m: &[f32; 6], sx: f32, sy: f32, out: &
 
 // Moves, and then does what m does.
 #[no_mangle]
-pub extern "C" fn nz_transform_pre_translate(
-    m: &[f32; 6],
-    tx: f32,
-    ty: f32,
-    out: &mut [f32; 6],
-)
+pub extern "C" fn nz_transform_pre_translate(m: &[f32; 6], tx: f32, ty: f32, out: &mut [f32; 6])
     ensures { λ _. ⌜ now (out .exit) ≡ rowNumbers (concatOf (matrixOf (now (m .entry))) (translateOf tx ty)) ⌝ }
 {
     give(matrix(m).pre_translate(tx, ty), out);
@@ -105,12 +100,7 @@ pub extern "C" fn nz_transform_pre_translate(
 
 // Does what m does, and then moves.
 #[no_mangle]
-pub extern "C" fn nz_transform_post_translate(
-    m: &[f32; 6],
-    tx: f32,
-    ty: f32,
-    out: &mut [f32; 6],
-)
+pub extern "C" fn nz_transform_post_translate(m: &[f32; 6], tx: f32, ty: f32, out: &mut [f32; 6])
     ensures { λ _. ⌜ now (out .exit) ≡ rowNumbers (concatOf (translateOf tx ty) (matrixOf (now (m .entry)))) ⌝ }
 {
     give(matrix(m).post_translate(tx, ty), out);

@@ -3,7 +3,10 @@ use mathlib.Core.Path.{_∙_}
 use Rattle.nyerdzumak.proofs.transforms.nz_transform_invert.Statement.{statement}
 use Rattle.nyerdzumak.proofs.transforms.nz_transform_invert.Tie as tie
 
+returns : tie.Need-returns
+returns c =
+    let found = c .before .before .invert .ensures in
+    rw (← c .before .before .before .matrix .ensures) (c .give-inverse .ensures .0 ∙ found .1, rw (← found .0) (c .give-inverse .ensures .1))
+
 pub nz-transform-invert-spec : {M : Type 1} → statement M
-nz-transform-invert-spec =
-    tie.close (tie.spec (λ c κs. tt) (λ c κs. tt) (λ c κs. tt)
-    (λ c. rw (← c .before .before .before .matrix .ensures) (c .give-inverse .ensures .0 ∙ c .before .before .invert .ensures .1, rw (← c .before .before .invert .ensures .0) (c .give-inverse .ensures .1))))
+nz-transform-invert-spec = tie.close (tie.spec (λ c κs. tt) (λ c κs. tt) (λ c κs. tt) returns)
