@@ -46,7 +46,7 @@ fn conics(huge: bool) -> Vec<([f32; 6], f32)> {
 }
 
 // One of the library's cuts, as the C face has it.
-type Cut = unsafe extern "C" fn(*const f32, usize, f32, u32, *mut f32, usize) -> u32;
+type Cut = unsafe extern "C" fn(*const f32, u64, f32, u32, *mut f32, u64) -> u32;
 
 fn cuts(huge: bool, cleared: bool) {
     let inputs = conics(huge);

@@ -1,5 +1,5 @@
 // Every exported call beside the original's: how an input is made, what the library gives, and what it has to give.
-// Where the original would panic or has no such input, the numbers of the scope document stand here.
+// Where the original would panic or has no such input, the numbers of docs/RULES.md stand here.
 use crate::inputs::Inputs;
 use crate::of_conics::*;
 use crate::of_curves::*;
@@ -16,6 +16,12 @@ pub struct Case {
     pub x: f64,
     pub len: [usize; 2],
     pub level: u32,
+}
+
+impl Case {
+    pub fn lent(&self, k: usize) -> u64 {
+        self.len[k] as u64
+    }
 }
 
 pub struct Call {
@@ -77,27 +83,27 @@ pub const CALLS: &[Call] = &[
         o.flag(exact::path_geometry::between(c.f[0], c.f[1], c.f[2]));
     } },
     Call { name: "valid_unit_divide", share: 4, listed: 1500, make: values,
-        ours: |c, o| root(c, o, |c, r, n| unsafe { nz_valid_unit_divide(c.f[0], c.f[1], r, n) }),
+        ours: |c, o| root(c, o, |c, r| unsafe { nz_valid_unit_divide(c.f[0], c.f[1], r) }),
         theirs: |c, o| found_one(o, pg::valid_unit_divide(c.f[0], c.f[1])) },
     Call { name: "find_unit_quad_roots", share: 6, listed: 1500, make: values,
-        ours: |c, o| roots(c, o, |c, r, n| unsafe { nz_find_unit_quad_roots(c.f[0], c.f[1], c.f[2], r, n) }),
+        ours: |c, o| roots(c, o, |c, r| unsafe { nz_find_unit_quad_roots(c.f[0], c.f[1], c.f[2], r) }),
         theirs: |c, o| {
             let mut ts = pg::new_t_values();
             let n = pg::find_unit_quad_roots(c.f[0], c.f[1], c.f[2], &mut ts);
             found(o, &ts[..n], 2);
         } },
     Call { name: "find_quad_extrema", share: 3, listed: 1500, make: values,
-        ours: |c, o| root(c, o, |c, r, n| unsafe { nz_find_quad_extrema(c.f[0], c.f[1], c.f[2], r, n) }),
+        ours: |c, o| root(c, o, |c, r| unsafe { nz_find_quad_extrema(c.f[0], c.f[1], c.f[2], r) }),
         theirs: |c, o| found_one(o, pg::find_quad_extrema(c.f[0], c.f[1], c.f[2])) },
     Call { name: "find_cubic_extrema", share: 4, listed: 1500, make: values,
-        ours: |c, o| roots(c, o, |c, r, n| unsafe { nz_find_cubic_extrema(c.f[0], c.f[1], c.f[2], c.f[3], r, n) }),
+        ours: |c, o| roots(c, o, |c, r| unsafe { nz_find_cubic_extrema(c.f[0], c.f[1], c.f[2], c.f[3], r) }),
         theirs: |c, o| {
             let mut ts = pg::new_t_values();
             let n = pg::find_cubic_extrema(c.f[0], c.f[1], c.f[2], c.f[3], &mut ts);
             found(o, &ts[..n], 2);
         } },
     Call { name: "find_cubic_inflections", share: 4, listed: 1500, make: cubic,
-        ours: |c, o| roots(c, o, |c, r, n| unsafe { nz_find_cubic_inflections(c.f.as_ptr(), c.len[0], r, n) }),
+        ours: inflections,
         theirs: |c, o| {
             if c.len[0] < 8 {
                 o.number(2);
@@ -106,6 +112,7 @@ pub const CALLS: &[Call] = &[
             }
             let mut ts = pg::new_t_values();
             let ts = pg::find_cubic_inflections(&points(&c.f), &mut ts);
+            o.number(0);
             found(o, ts, 2);
         } },
     Call { name: "eval_quad_at", share: 4, listed: 1500, make: quad, ours: |c, o| evaluated(c, o, nz_eval_quad_at),
@@ -122,24 +129,24 @@ pub const CALLS: &[Call] = &[
         theirs: |c, o| chop::<7>(c, o, 8, |t, dst| pg::chop_cubic_at2(&points::<4>(&c.f), t, dst)) },
     Call { name: "find_quad_max_curvature", share: 2, listed: 1500, make: quad, ours: |c, o| {
         let mut t = buffer::<1>();
-        o.number(unsafe { nz_find_quad_max_curvature(c.f.as_ptr(), c.len[0], &mut t[0]) });
+        o.number(unsafe { nz_find_quad_max_curvature(c.f.as_ptr(), c.lent(0), &mut t[0]) });
         o.computed(&t);
     }, theirs: curvature },
     Call { name: "conic_chop", share: 4, listed: 1500, make: conic, ours: |c, o| {
         let mut h = buffer::<14>();
-        o.number(unsafe { nz_conic_chop(c.f.as_ptr(), c.len[0], c.f[6], &mut h) });
+        o.number(unsafe { nz_conic_chop(c.f.as_ptr(), c.lent(0), c.f[6], &mut h) });
         o.computed(&h);
     }, theirs: halves },
     Call { name: "conic_compute_quad_pow2", share: 5, listed: 7000, make: conic, ours: |c, o| {
         let mut n = 77;
-        o.number(unsafe { nz_conic_compute_quad_pow2(c.f.as_ptr(), c.len[0], c.f[6], c.f[7], &mut n) });
+        o.number(unsafe { nz_conic_compute_quad_pow2(c.f.as_ptr(), c.lent(0), c.f[6], c.f[7], &mut n) });
         o.number(n);
     }, theirs: level },
     Call { name: "conic_chop_into_quads_pow2", share: 8, listed: 8500, make: conic, ours: |c, o| cut(c, o, nz_conic_chop_into_quads_pow2), theirs: by_product },
     Call { name: "cut_in_order", share: 8, listed: 8500, make: conic, ours: |c, o| cut(c, o, nz_cut_in_order), theirs: by_exact },
     Call { name: "auto_conic_to_quads", share: 4, listed: 6500, make: conic, ours: |c, o| {
         let (mut p, mut n) = (buffer::<128>(), 77);
-        o.number(unsafe { nz_auto_conic_to_quads(c.f.as_ptr(), c.len[0], c.f[6], &mut p, &mut n) });
+        o.number(unsafe { nz_auto_conic_to_quads(c.f.as_ptr(), c.lent(0), c.f[6], &mut p, &mut n) });
         o.number(n as u32);
         o.computed(&p);
     }, theirs: automatic },
@@ -156,8 +163,8 @@ pub const CALLS: &[Call] = &[
         row(o, Transform::from_skew(c.f[0], c.f[1]), true);
     } },
     Call { name: "transform: pre_concat and post_concat", share: 5, listed: 5500, make: matrices, ours: |c, o| unsafe {
-        given(o, |m| nz_transform_pre_concat(first(c), second(c), m));
-        given(o, |m| nz_transform_post_concat(first(c), second(c), m));
+        void(o, first(c), |a, m| nz_transform_pre_concat(a, second(c), m));
+        void(o, first(c), |a, m| nz_transform_post_concat(a, second(c), m));
     }, theirs: |c, o| {
         let (a, b) = (matrix(&c.f), matrix(&c.f[6..]));
         let copied = a.is_identity() || b.is_identity();
@@ -166,10 +173,10 @@ pub const CALLS: &[Call] = &[
     } },
     Call { name: "transform: pre_scale, post_scale, pre_translate, post_translate", share: 4, listed: 1500, make: matrices, ours: |c, o| unsafe {
         let (x, y) = (c.f[6], c.f[7]);
-        given(o, |m| nz_transform_pre_scale(first(c), x, y, m));
-        given(o, |m| nz_transform_post_scale(first(c), x, y, m));
-        given(o, |m| nz_transform_pre_translate(first(c), x, y, m));
-        given(o, |m| nz_transform_post_translate(first(c), x, y, m));
+        void(o, first(c), |a, m| nz_transform_pre_scale(a, x, y, m));
+        void(o, first(c), |a, m| nz_transform_post_scale(a, x, y, m));
+        void(o, first(c), |a, m| nz_transform_pre_translate(a, x, y, m));
+        void(o, first(c), |a, m| nz_transform_post_translate(a, x, y, m));
     }, theirs: |c, o| {
         let (t, x, y) = (matrix(&c.f), c.f[6], c.f[7]);
         let (scale, translate) = (Transform::from_scale(x, y).is_identity(), Transform::from_translate(x, y).is_identity());
@@ -178,24 +185,29 @@ pub const CALLS: &[Call] = &[
         row(o, t.pre_translate(x, y), t.is_identity() || translate);
         row(o, t.post_translate(x, y), t.is_identity() || translate);
     } },
-    Call { name: "transform: invert", share: 5, listed: 5500, make: matrices, ours: |c, o| given(o, |m| unsafe { nz_transform_invert(first(c), m) }), theirs: |c, o| {
+    Call { name: "transform: invert", share: 5, listed: 5500, make: matrices, ours: |c, o| {
+        let number = changed(o, first(c), |a, m| unsafe { nz_transform_invert(a, m) });
+        o.number(number);
+    }, theirs: |c, o| {
         let t = matrix(&c.f);
         match t.invert() {
-            Some(r) => row(o, r, t.is_identity()),
+            Some(r) => {
+                row(o, r, t.is_identity());
+                o.number(0);
+            }
             None => {
-                o.number(if original::transform::inv_determinant(&t).is_none() { 6 } else { 7 });
                 o.untouched(0, 6);
+                o.number(if original::transform::inv_determinant(&t).is_none() { 6 } else { 7 });
             }
         }
     } },
     Call { name: "transform: map_point", share: 4, listed: 1500, make: matrices, ours: |c, o| {
         let mut p = [c.f[6], c.f[7]];
-        o.number(unsafe { nz_transform_map_point(first(c), &mut p) });
+        unsafe { nz_transform_map_point(first(c), &mut p) };
         o.computed(&p);
     }, theirs: |c, o| {
         let (t, mut p) = (matrix(&c.f), Point::from_xy(c.f[6], c.f[7]));
         t.map_point(&mut p);
-        o.number(0);
         if t.is_identity() { o.copied(&numbers(p)) } else { o.computed(&numbers(p)) }
     } },
     Call { name: "transform: map_numbers", share: 5, listed: 9000, make: matrices, ours: mapped, theirs: their_mapped },

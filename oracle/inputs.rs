@@ -3,6 +3,7 @@
 pub struct Inputs {
     state: u64,
     kind: u64,
+    base: u32,
 }
 
 const SPECIAL: [u32; 24] = [
@@ -17,7 +18,7 @@ fn plain(x: f32) -> f32 {
 
 impl Inputs {
     pub fn new(seed: u64) -> Inputs {
-        Inputs { state: seed.wrapping_mul(0x9e37_79b9_7f4a_7c15) | 1, kind: 0 }
+        Inputs { state: seed.wrapping_mul(0x9e37_79b9_7f4a_7c15) | 1, kind: 0, base: 0 }
     }
 
     pub fn next(&mut self) -> u64 {
@@ -37,7 +38,8 @@ impl Inputs {
 
     // Begins a record: its numbers will be of one kind.
     pub fn begin(&mut self) {
-        self.kind = self.below(8);
+        self.kind = self.below(10);
+        self.base = ((self.below(2) << 31) | (90 + self.below(80)) << 23 | self.below(1 << 23)) as u32;
     }
 
     pub fn special(&mut self) -> f32 {
@@ -67,6 +69,9 @@ impl Inputs {
             // about the underflow, and about the overflow of products and sums
             5 => f32::from_bits(sign | ((r >> 40) % 80) as u32 * 0x80_0000 | digits),
             6 => f32::from_bits(sign | (180 + ((r >> 40) % 75) as u32) << 23 | digits),
+            // a huge span: differences overflow; and a tiny one: a few units in the last place
+            7 => f32::from_bits(sign | (249 + ((r >> 40) % 6) as u32) << 23 | digits),
+            8 => f32::from_bits(self.base + (r >> 40) as u32 % 6),
             // a millisecond clock
             _ => ((r >> 4) % 16_777_217) as f32,
         }
@@ -86,7 +91,10 @@ impl Inputs {
     }
 
     pub fn weight(&mut self) -> f32 {
-        match self.below(12) {
+        match self.below(14) {
+            // about -1, where the formulas divide by zero
+            12 => f32::from_bits(0xbf80_0000 - 4 + self.below(9) as u32),
+            13 => -1.0 + (self.below(2001) as f32 - 1000.0) / 1_000_000.0,
             0 => f32::from_bits(0x7fc0_0000),
             1 => 0.0,
             2 => -1.0,
@@ -98,11 +106,16 @@ impl Inputs {
         }
     }
 
-    // A conic's six numbers, every other one with its middle y between its ends.
+    // A conic's six numbers: some with two coordinates one unit in the last place apart, and every other one with its
+    // middle y between its ends.
     pub fn conic(&mut self) -> [f32; 6] {
         let mut p = [0.0; 6];
         for v in p.iter_mut() {
             *v = self.value();
+        }
+        if self.chance(6) {
+            let (k, other) = (self.below(6) as usize, 2 + 2 * self.below(2) as usize);
+            p[(k + other) % 6] = f32::from_bits(p[k].to_bits() ^ 1);
         }
         if self.chance(2) {
             for k in 0..2 {

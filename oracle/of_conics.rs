@@ -18,9 +18,9 @@ pub fn room(level: u32) -> usize {
     2 * (2 * (1 << level) + 1)
 }
 
-pub fn cut(c: &Case, out: &mut Output, call: unsafe extern "C" fn(*const f32, usize, f32, u32, *mut f32, usize) -> u32) {
+pub fn cut(c: &Case, out: &mut Output, call: unsafe extern "C" fn(*const f32, u64, f32, u32, *mut f32, u64) -> u32) {
     let mut buf = buffer::<140>();
-    out.number(unsafe { call(c.f.as_ptr(), c.len[0], c.f[6], c.level, buf.as_mut_ptr(), c.len[1]) });
+    out.number(unsafe { call(c.f.as_ptr(), c.lent(0), c.f[6], c.level, buf.as_mut_ptr(), c.lent(1)) });
     out.computed(&buf);
 }
 

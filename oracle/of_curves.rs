@@ -5,24 +5,26 @@ use crate::outputs::{buffer, Output};
 use original::path_geometry as pg;
 use original::{NormalizedF32, NormalizedF32Exclusive, Point};
 
-pub type Roots2 = unsafe fn(&Case, *mut [f32; 2], *mut u32) -> u32;
+pub fn roots(c: &Case, out: &mut Output, call: unsafe fn(&Case, *mut [f32; 2]) -> u32) {
+    let mut roots = buffer::<2>();
+    out.number(unsafe { call(c, &mut roots) });
+    out.computed(&roots);
+}
 
-pub fn roots(c: &Case, out: &mut Output, call: Roots2) {
+pub fn root(c: &Case, out: &mut Output, call: unsafe fn(&Case, *mut f32) -> u32) {
+    let mut root = buffer::<1>();
+    out.number(unsafe { call(c, &mut root[0]) });
+    out.computed(&root);
+}
+
+pub fn inflections(c: &Case, out: &mut Output) {
     let (mut roots, mut count) = (buffer::<2>(), 77);
-    out.number(unsafe { call(c, &mut roots, &mut count) });
+    out.number(unsafe { nz_find_cubic_inflections(c.f.as_ptr(), c.lent(0), &mut roots, &mut count) });
     out.number(count);
     out.computed(&roots);
 }
 
-pub fn root(c: &Case, out: &mut Output, call: unsafe fn(&Case, *mut [f32; 1], *mut u32) -> u32) {
-    let (mut root, mut count) = (buffer::<1>(), 77);
-    out.number(unsafe { call(c, &mut root, &mut count) });
-    out.number(count);
-    out.computed(&root);
-}
-
 pub fn found(out: &mut Output, ts: &[NormalizedF32Exclusive], places: usize) {
-    out.number(0);
     out.number(ts.len() as u32);
     for t in ts {
         out.computed(&[t.get()]);
@@ -53,9 +55,9 @@ pub fn curve(i: &mut Inputs, c: &mut Case, n: usize, room: usize) {
     c.len = [i.length(2 * n).min(11), i.length(room)];
 }
 
-pub fn evaluated(c: &Case, out: &mut Output, call: unsafe extern "C" fn(*const f32, usize, f32, *mut [f32; 2]) -> u32) {
+pub fn evaluated(c: &Case, out: &mut Output, call: unsafe extern "C" fn(*const f32, u64, f32, *mut [f32; 2]) -> u32) {
     let mut p = buffer::<2>();
-    out.number(unsafe { call(c.f.as_ptr(), c.len[0], c.f[8], &mut p) });
+    out.number(unsafe { call(c.f.as_ptr(), c.lent(0), c.f[8], &mut p) });
     out.computed(&p);
 }
 
@@ -72,9 +74,9 @@ pub fn evaluation(c: &Case, out: &mut Output, need: usize, at: impl Fn(Normalize
     out.untouched(0, 2);
 }
 
-pub fn chopped(c: &Case, out: &mut Output, call: unsafe extern "C" fn(*const f32, usize, f32, *mut f32, usize) -> u32) {
+pub fn chopped(c: &Case, out: &mut Output, call: unsafe extern "C" fn(*const f32, u64, f32, *mut f32, u64) -> u32) {
     let mut dst = buffer::<20>();
-    out.number(unsafe { call(c.f.as_ptr(), c.len[0], c.f[8], dst.as_mut_ptr(), c.len[1]) });
+    out.number(unsafe { call(c.f.as_ptr(), c.lent(0), c.f[8], dst.as_mut_ptr(), c.lent(1)) });
     out.computed(&dst);
 }
 

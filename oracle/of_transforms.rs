@@ -30,14 +30,36 @@ pub fn matrix(m: &[f32]) -> Transform {
     Transform::from_row(m[0], m[1], m[2], m[3], m[4], m[5])
 }
 
-pub fn given(out: &mut Output, call: impl Fn(*mut [f32; 6]) -> u32) {
+// What a call leaves that gives a matrix.
+pub fn given(out: &mut Output, call: impl Fn(*mut [f32; 6])) {
     let mut m = buffer::<6>();
-    out.number(call(&mut m));
+    call(&mut m);
     out.computed(&m);
 }
 
+// The same of a call that is lent a matrix: the library may be given one array for both, and must leave the same.
+pub fn changed(out: &mut Output, from: &[f32; 6], call: impl Fn(*const [f32; 6], *mut [f32; 6]) -> u32) -> u32 {
+    let (mut m, mut same) = (buffer::<6>(), *from);
+    let number = call(from, &mut m);
+    let place: *mut [f32; 6] = &mut same;
+    let again = call(place, place);
+    let expected = if number == 0 { m } else { *from };
+    if again != number || same.map(f32::to_bits) != expected.map(f32::to_bits) {
+        out.number(u32::MAX); // in place it is something else: the judge has no such word
+    }
+    out.computed(&m);
+    number
+}
+
+// The same of a call that cannot refuse.
+pub fn void(out: &mut Output, from: &[f32; 6], call: impl Fn(*const [f32; 6], *mut [f32; 6])) {
+    changed(out, from, |a, m| {
+        call(a, m);
+        0
+    });
+}
+
 pub fn row(out: &mut Output, t: Transform, copied: bool) {
-    out.number(0);
     let m = [t.sx, t.ky, t.kx, t.sy, t.tx, t.ty];
     if copied { out.copied(&m) } else { out.computed(&m) }
 }
@@ -52,7 +74,7 @@ pub fn kinds(c: &Case, out: &mut Output) {
             out.flag(k(m));
         }
         let mut scale = buffer::<2>();
-        out.number(nz_transform_get_scale(m, &mut scale));
+        nz_transform_get_scale(m, &mut scale);
         out.computed(&scale);
     }
 }
@@ -66,14 +88,13 @@ pub fn their_kinds(c: &Case, out: &mut Output) {
         out.flag(b);
     }
     let (x, y) = t.get_scale();
-    out.number(0);
     out.computed(&[x, y]);
 }
 
 pub fn mapped(c: &Case, out: &mut Output) {
     let mut numbers = buffer::<8>();
     numbers[..c.len[0]].copy_from_slice(&c.f[6..6 + c.len[0]]);
-    out.number(unsafe { nz_transform_map_numbers(first(c), numbers.as_mut_ptr(), c.len[0]) });
+    out.number(unsafe { nz_transform_map_numbers(first(c), numbers.as_mut_ptr(), c.lent(0)) });
     out.computed(&numbers);
 }
 

@@ -27,12 +27,12 @@ fn has_kinds(s: Sum, m: &[f32; 6]) -> Sum {
 fn all_kinds(m: &[f32; 6]) -> Sum {
     let s = has_kinds(pure_kinds(three_kinds(sum::START, m), m), m);
     let mut scale = [7000.0f32, 7001.0];
-    let number = kinds::nz_transform_get_scale(m, &mut scale);
-    sum::two(s, number, &scale)
+    kinds::nz_transform_get_scale(m, &mut scale);
+    sum::both(s, &scale)
 }
 
 // Call j of those that give a matrix.
-fn matrix(j: u32, m: &[f32; 6], b: &[f32; 6], x: f32, y: f32, out: &mut [f32; 6]) -> u32 {
+fn matrix(j: u32, m: &[f32; 6], b: &[f32; 6], x: f32, y: f32, out: &mut [f32; 6]) {
     match j {
         0 => transforms::nz_transform_identity(out),
         1 => transforms::nz_transform_from_translate(x, y, out),
@@ -43,15 +43,20 @@ fn matrix(j: u32, m: &[f32; 6], b: &[f32; 6], x: f32, y: f32, out: &mut [f32; 6]
         6 => transforms::nz_transform_pre_scale(m, x, y, out),
         7 => transforms::nz_transform_post_scale(m, x, y, out),
         8 => transforms::nz_transform_pre_translate(m, x, y, out),
-        9 => transforms::nz_transform_post_translate(m, x, y, out),
-        _ => transforms::nz_transform_invert(m, out),
+        _ => transforms::nz_transform_post_translate(m, x, y, out),
     }
 }
 
 fn row(s: Sum, j: u32, m: &[f32; 6], b: &[f32; 6], x: f32, y: f32) -> Sum {
     let mut out = [7000.0f32, 7001.0, 7002.0, 7003.0, 7004.0, 7005.0];
-    let number = matrix(j, m, b, x, y, &mut out);
-    sum::six(s, number, &out)
+    matrix(j, m, b, x, y, &mut out);
+    sum::six(s, &out)
+}
+
+fn inverse(m: &[f32; 6]) -> Sum {
+    let mut out = [7000.0f32, 7001.0, 7002.0, 7003.0, 7004.0, 7005.0];
+    let number = transforms::nz_transform_invert(m, &mut out);
+    sum::word(sum::six(sum::START, &out), number)
 }
 
 // What the calls from one on and before another give.
@@ -67,8 +72,8 @@ fn rows(from: u32, to: u32, m: &[f32; 6], b: &[f32; 6], x: f32, y: f32) -> Sum {
 
 fn map_point(m: &[f32; 6], x: f32, y: f32) -> Sum {
     let mut point = [x, y];
-    let number = transforms::nz_transform_map_point(m, &mut point);
-    sum::two(sum::START, number, &point)
+    transforms::nz_transform_map_point(m, &mut point);
+    sum::both(sum::START, &point)
 }
 
 // Maps the numbers where they stand, and answers the call's number.
@@ -103,7 +108,7 @@ fn on_matrices(k: u32, r: &[u8; 80], m: &[f32; 6], b: &[f32; 6]) -> Sum {
         21 => rows(0, 4, m, b, record::float_at(r, 1), record::float_at(r, 2)),
         22 => rows(4, 6, m, b, x, y),
         23 => rows(6, 10, m, b, x, y),
-        24 => rows(10, 11, m, b, x, y),
+        24 => inverse(m),
         _ => map_point(m, x, y),
     }
 }

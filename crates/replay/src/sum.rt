@@ -60,14 +60,19 @@ pub fn floats(s: Sum, xs: &[f32]) -> Sum {
     t
 }
 
-// A call's number, and then the two places that it was lent.
-pub fn two(s: Sum, number: u32, xs: &[f32; 2]) -> Sum {
-    floats(word(s, number), xs)
+// The sums with two floats more.
+pub fn both(s: Sum, xs: &[f32; 2]) -> Sum {
+    floats(s, xs)
 }
 
-// The same of six places.
-pub fn six(s: Sum, number: u32, xs: &[f32; 6]) -> Sum {
-    floats(word(s, number), xs)
+// The sums with six floats more.
+pub fn six(s: Sum, xs: &[f32; 6]) -> Sum {
+    floats(s, xs)
+}
+
+// What a call returns, and then the two places that it was lent.
+pub fn two(s: Sum, returned: u32, xs: &[f32; 2]) -> Sum {
+    both(word(s, returned), xs)
 }
 
 // Sets lent memory to what stands there before a call: in place k the number 7000 + k.
