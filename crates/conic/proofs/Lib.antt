@@ -2,3 +2,4 @@ pub mod Agree
 pub mod Levels
 pub mod Sources
 pub mod Ways
+mod Whole

@@ -11,6 +11,7 @@ use Rattle.conic.specs.declared.Halves.{Halves}
 use Rattle.conic.specs.declared.Rule.{Rule}
 use Rattle.conic.specs.declared.chopping.Line.{Line}
 use Rattle.conic.specs.declared.chopping.Lines.{Lines}
+use Rattle.conic.specs.declared.depth.Depth.{Depth}
 use Rattle.conic.specs.Mend.{mendedOf}
 
 abbrev pub conicFrom : Point → Point → Point → Float → Conic
@@ -56,12 +57,16 @@ withMiddle l m = record { left = l .left; middle = m; right = l .right }
 abbrev pub wideLine : Float → Axis → Conic → Line
 wideLine s k c = withMiddle (plainLine s k c) (wideMiddle (along k (c .p0)) (along k (c .p1)) (along k (c .p2)) (c .weight))
 
--- both middles through f64 where the point of the plain ones does not pass the crate's finite test
+abbrev pub plainLines : Float → Conic → Lines
+plainLines s c = record { x = plainLine s X c; y = plainLine s Y c }
+
+-- the middle point passes the crate's finite test
+abbrev pub wholeMiddle : Lines → Bool
+wholeMiddle l = pointFinite (pointFrom (l .x .middle) (l .y .middle))
+
+-- both middles through f64 where that of the plain lines does not pass
 unfoldable pub linesAt : Float → Conic → Lines
-linesAt s c =
-    cond (pointFinite (pointFrom (plainLine s X c .middle) (plainLine s Y c .middle)))
-    (record { x = plainLine s X c; y = plainLine s Y c })
-    (record { x = wideLine s X c; y = wideLine s Y c })
+linesAt s c = cond (wholeMiddle (plainLines s c)) (plainLines s c) (record { x = wideLine s X c; y = wideLine s Y c })
 
 abbrev pub linesOf : Conic → Lines
 linesOf c = linesAt (scaleOf (c .weight)) c
@@ -93,10 +98,13 @@ mendedLine k u c l = cond (orders k u) (mendedOf u (along k (c .p0)) (along k (c
 abbrev pub mendedLines : Rule → Float → Conic → Lines
 mendedLines u s c = record { x = mendedLine X u c (linesAt s c .x); y = mendedLine Y u c (linesAt s c .y) }
 
--- at the scale s, with halves of weight w
-unfoldable pub chopAt : Rule → Float → Float → Conic → Halves
-chopAt u s w c = halvesAt w c (mendedLines u s c)
+-- what all conics of weight w share
+abbrev pub depthOf : Float → Depth
+depthOf w = record { scale = scaleOf w; weight = weightOf w }
+
+unfoldable pub chopAt : Rule → Depth → Conic → Halves
+chopAt u d c = halvesAt (d .weight) c (mendedLines u (d .scale) c)
 
 unfoldable pub chopBy : Rule → Conic → Halves
 unfolding chopAt
-chopBy u c = chopAt u (scaleOf (c .weight)) (weightOf (c .weight)) c
+chopBy u c = chopAt u (depthOf (c .weight)) c

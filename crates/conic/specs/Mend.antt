@@ -1,5 +1,5 @@
 -- The corrections after a chop, along one axis: from the start a to the end c the line l must not turn back. Definitions only.
-use mathlib.Core.Bool.{cond}
+use mathlib.Core.Bool.{Bool, cond, _&&_}
 use lib.Ieee.{Float, lt}
 use Rattle.float_laws.specs.Absolute.{absOf}
 use Rattle.float_laws.specs.Formula.{_⊖_}
@@ -24,6 +24,10 @@ orderedOf u a c l =
       right = cond (test u m (l .right) c) (l .right) c;
     }
 
--- the same, only where the conic's control b passes the test
+-- the line passes the tests as it is
+abbrev pub inOrder : Rule → Float → Float → Line → Bool
+inOrder u a c l = (test u a (l .middle) c && test u a (l .left) (l .middle)) && test u (l .middle) (l .right) c
+
+-- put in order, only where the conic's control b passes the test
 unfoldable pub mendedOf : Rule → Float → Float → Float → Line → Line
 mendedOf u a b c l = cond (test u a b c) (orderedOf u a c l) l

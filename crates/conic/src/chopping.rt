@@ -1,7 +1,6 @@
 // The formulas of a chop, one axis at a time. Carried over from `path_geometry.rs` of tiny-skia-path 0.12.0.
 ghost use mathlib.Core.Path.{_≡_};
-ghost use Rattle.conic.specs.Chop.{conicFrom, lineOf, withMiddle, wideMiddle, linesAt, halvesAt};
-ghost use Rattle.point.specs.Point.{pointFrom};
+ghost use Rattle.conic.specs.Chop.{lineOf, withMiddle, wideMiddle, plainLines, wholeMiddle, linesAt, halvesAt};
 use crate::Conic;
 use crate::Halves;
 use point::Point;
@@ -47,45 +46,72 @@ fn widened(l: Line, a: f32, b: f32, c: f32, weight: f32) -> Line
     }
 }
 
-// Both axes of a chop. Both middles are computed again where the point that they make is not finite.
-pub fn chopped(c: Conic, scale: f32) -> Lines
-    ensures { λ r. ⌜ r ≡ linesAt scale c ⌝ }
+// Both axes of a chop, as the formulas give them.
+pub fn plain_lines(c: Conic, scale: f32) -> Lines
+    ensures { λ r. ⌜ r ≡ plainLines scale c ⌝ }
 {
     let x = plain(c.p0.x, c.p1.x, c.p2.x, c.weight, scale);
     let y = plain(c.p0.y, c.p1.y, c.p2.y, c.weight, scale);
-    let middle = Point {
-        x: x.middle,
-        y: y.middle,
-    };
-    if middle.is_finite() {
-        return Lines { x, y };
-    }
-    let x = widened(x, c.p0.x, c.p1.x, c.p2.x, c.weight);
-    let y = widened(y, c.p0.y, c.p1.y, c.p2.y, c.weight);
     Lines { x, y }
 }
 
-// The conic from p0 to p2, bent towards the point at x, y.
-fn half(p0: Point, x: f32, y: f32, p2: Point, weight: f32) -> Conic
-    ensures { λ r. ⌜ r ≡ conicFrom p0 (pointFrom x y) p2 weight ⌝ }
-{
-    Conic {
-        p0,
-        p1: Point { x, y },
-        p2,
-        weight,
-    }
-}
-
-// The halves of c that these lines make.
-pub fn halves(c: Conic, l: Lines, weight: f32) -> Halves
-    ensures { λ r. ⌜ r ≡ halvesAt weight c l ⌝ }
+// Whether the middle point of these lines passes the crate's finite test.
+pub fn is_whole(l: Lines) -> bool
+    ensures { λ r. ⌜ r ≡ wholeMiddle l ⌝ }
 {
     let middle = Point {
         x: l.x.middle,
         y: l.y.middle,
     };
-    let first = half(c.p0, l.x.left, l.y.left, middle, weight);
-    let second = half(middle, l.x.right, l.y.right, c.p2, weight);
+    middle.is_finite()
+}
+
+// Both axes of a chop. Both middles are computed again where the point that they make is not finite.
+pub fn chopped(c: Conic, scale: f32) -> Lines
+    ensures { λ r. ⌜ r ≡ linesAt scale c ⌝ }
+{
+    let l = plain_lines(c, scale);
+    if is_whole(l) {
+        return l;
+    }
+    let x = widened(l.x, c.p0.x, c.p1.x, c.p2.x, c.weight);
+    let y = widened(l.y, c.p0.y, c.p1.y, c.p2.y, c.weight);
+    Lines { x, y }
+}
+
+// The halves of c that these lines make, number by number: a point that is copied whole is slower.
+pub fn halves(c: Conic, l: Lines, weight: f32) -> Halves
+    ensures { λ r. ⌜ r ≡ halvesAt weight c l ⌝ }
+{
+    let first = Conic {
+        p0: Point {
+            x: c.p0.x,
+            y: c.p0.y,
+        },
+        p1: Point {
+            x: l.x.left,
+            y: l.y.left,
+        },
+        p2: Point {
+            x: l.x.middle,
+            y: l.y.middle,
+        },
+        weight,
+    };
+    let second = Conic {
+        p0: Point {
+            x: l.x.middle,
+            y: l.y.middle,
+        },
+        p1: Point {
+            x: l.x.right,
+            y: l.y.right,
+        },
+        p2: Point {
+            x: c.p2.x,
+            y: c.p2.y,
+        },
+        weight,
+    };
     Halves { first, second }
 }

@@ -5,13 +5,15 @@ ghost use mathlib.Core.Bool.{false};
 ghost use lib.Dec.{ltb};
 ghost use lib.ListN.{length};
 ghost use Rattle.conic.specs.Between.{productTest, exactTest, test};
-ghost use Rattle.conic.specs.Chop.{conicFrom, scaleOf, weightOf, chopOf, chopAt, chopBy};
+ghost use Rattle.conic.specs.Chop.{conicFrom, weightOf, chopOf, chopBy};
 ghost use Rattle.conic.specs.Level.{Chosen};
 ghost use Rattle.conic.specs.Refusal.{numberOf, numberOfFromPoints, numberOfLevel};
 ghost use Rattle.conic.specs.Source.{conicOf, Taken};
+use depth::Depth;
 use point::Point;
 
 mod chopping;
+pub mod depth;
 mod leveling;
 mod mending;
 
@@ -154,15 +156,9 @@ impl Conic {
     pub fn chop(self) -> Halves
         ensures { λ r. ⌜ r ≡ chopOf self ⌝ }
     {
-        let l = chopping::chopped(self, Conic::scale(self.weight));
-        chopping::halves(self, l, Conic::subdivide_weight_value(self.weight))
-    }
-
-    // The scale of a chop, by the conic's weight.
-    pub fn scale(weight: f32) -> f32
-        ensures { λ r. ⌜ r ≡ scaleOf weight ⌝ }
-    {
-        1.0 / (1.0 + weight)
+        let d = Depth::of(self.weight);
+        let l = chopping::chopped(self, d.scale);
+        chopping::halves(self, l, d.weight)
     }
 
     // The weight of both halves, by the conic's.
@@ -176,18 +172,7 @@ impl Conic {
     pub fn chop_by(self, rule: Rule) -> Halves
         ensures { λ r. ⌜ r ≡ chopBy rule self ⌝ }
     {
-        let scale = Conic::scale(self.weight);
-        self.chop_at(rule, scale, Conic::subdivide_weight_value(self.weight))
-    }
-
-    // The same at a scale and with a weight for the halves that are in hand: all conics of one depth of a cut share them.
-    pub fn chop_at(self, rule: Rule, scale: f32, weight: f32) -> Halves
-        ensures { λ r. ⌜ r ≡ chopAt rule scale weight self ⌝ }
-    {
-        let l = chopping::chopped(self, scale);
-        let x = l.x;
-        let y = mending::mended(rule, self.p0.y, self.p1.y, self.p2.y, l.y);
-        chopping::halves(self, chopping::Lines { x, y }, weight)
+        Depth::of(self.weight).chop(rule, self)
     }
 
     // The level at which the quads are within the tolerance of the conic, from 1 to 4. Refused for a bad tolerance, and then for a point that is not finite.

@@ -1,8 +1,8 @@
 // The corrections after a chop, along one axis. Carried over from `subdivide` in `path_geometry.rs` of tiny-skia-path 0.12.0.
 ghost use mathlib.Core.Path.{_≡_};
-ghost use mathlib.Core.Bool.{cond, _&&_};
+ghost use mathlib.Core.Bool.{cond, not, _||_};
 ghost use Rattle.conic.specs.Between.{test};
-ghost use Rattle.conic.specs.Mend.{nearerOf, orderedOf, mendedOf};
+ghost use Rattle.conic.specs.Mend.{nearerOf, orderedOf, inOrder, mendedOf};
 use crate::Rule;
 use crate::between;
 use crate::chopping::Line;
@@ -41,22 +41,28 @@ fn in_order(rule: Rule, a: f32, c: f32, l: Line) -> Line
 
 // Whether the middle and both controls are in order as they are.
 fn is_in_order(rule: Rule, a: f32, c: f32, l: Line) -> bool
-    ensures { λ r. ⌜ r ≡ (test rule a (l .middle) c && test rule a (l .left) (l .middle)) && test rule (l .middle) (l .right) c ⌝ }
+    ensures { λ r. ⌜ r ≡ inOrder rule a c l ⌝ }
 {
     between(rule, a, l.middle, c)
         & between(rule, a, l.left, l.middle)
         & between(rule, l.middle, l.right, c)
 }
 
-// The line of a chop from a to c: put in order where b lies between them. Mostly it is in order as it is, and a branch
-// that is hardly ever taken costs less than to choose each number.
+// Whether `mended` would leave the line: where it is in order as it is, or b does not lie between the ends.
+pub fn stays(rule: Rule, a: f32, b: f32, c: f32, l: Line) -> bool
+    ensures { λ r. ⌜ r ≡ (inOrder rule a c l || not (test rule a b c)) ⌝ }
+{
+    if is_in_order(rule, a, c, l) {
+        return true;
+    }
+    !between(rule, a, b, c)
+}
+
+// The line of a chop from a to c: put in order where b lies between them.
 pub fn mended(rule: Rule, a: f32, b: f32, c: f32, l: Line) -> Line
     ensures { λ r. ⌜ r ≡ mendedOf rule a b c l ⌝ }
 {
     if between(rule, a, b, c) {
-        if is_in_order(rule, a, c, l) {
-            return l;
-        }
         return in_order(rule, a, c, l);
     }
     l

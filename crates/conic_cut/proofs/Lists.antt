@@ -19,18 +19,14 @@ module _ {A : Type 0} where
       set-sets vs (set l j v) i (suc j) a (omega arith)
       ∙ ap (λ (k : List A). sets k (suc j) vs) (set-comm l j i v a (λ e. omega arith))
 
-  -- what is stored again over the first of it, and over what comes after p
-  sets-over : (a b t l : List A) (i : ℕ) → length a ≡ length b → sets (sets l i (a ++ t)) i b ≡ sets l i (b ++ t)
-  sets-over [] [] t l i h = refl
-  sets-over [] (y ∷ b) t l i h = absurd (omega arith)
-  sets-over (x ∷ a) [] t l i h = absurd (omega arith)
-  sets-over (x ∷ a) (y ∷ b) t l i h =
-      ap (λ (k : List A). sets k (suc i) b) (set-sets (a ++ t) (set l i x) i (suc i) y (omega arith) ∙ ap (λ (k : List A). sets k (suc i) (a ++ t)) (set-set l i x y))
-      ∙ sets-over a b t (set l i y) (suc i) (omega arith)
-
-  pub sets-amid : (p a b t l : List A) (i j : ℕ) → j ≡ i + length p → length a ≡ length b → sets (sets l i (p ++ (a ++ t))) j b ≡ sets l i (p ++ (b ++ t))
-  sets-amid [] a b t l i j e h = let f : j ≡ i = omega arith in rw f (sets-over a b t l i h)
-  sets-amid (x ∷ p) a b t l i j e h = sets-amid p a b t (set l i x) (suc i) j (omega arith) h
+  -- the second list is stored over the first
+  pub sets-again : (a b l : List A) (i : ℕ) → length a ≡ length b → sets (sets l i a) i b ≡ sets l i b
+  sets-again [] [] l i h = refl
+  sets-again [] (y ∷ b) l i h = absurd (omega arith)
+  sets-again (x ∷ a) [] l i h = absurd (omega arith)
+  sets-again (x ∷ a) (y ∷ b) l i h =
+      ap (λ (k : List A). sets k (suc i) b) (set-sets a (set l i x) i (suc i) y (omega arith) ∙ ap (λ (k : List A). sets k (suc i) a) (set-set l i x y))
+      ∙ sets-again a b (set l i y) (suc i) (omega arith)
 
   -- a list stored at the start, with what is left after it
   pub sets-whole : (v l : List A) (n : ℕ) → length v ≡ n → n ≤ length l → sets l 0 v ≡ v ++ drop n l

@@ -16,7 +16,7 @@ use Rattle.point.specs.Point.{pointFinite}
 use Rattle.conic.specs.declared.Conic.{Conic}
 use Rattle.conic.specs.declared.Halves.{Halves}
 use Rattle.conic_cut.specs.Cut.{cutPoints, allFinite, plain, pinned, written}
-use Rattle.conic_cut.proofs.Lists.{sets-then, sets-amid, sets-take}
+use Rattle.conic_cut.proofs.Lists.{sets-then, sets-again, sets-take}
 
 -- ---- powers and lengths
 pub pow-zero : (n : ℕ) → n ≡ 0 → 2 ^ n ≡ 1
@@ -52,15 +52,26 @@ cut-length f (suc n) c =
 numbers-length : (f : Conic → Halves) (n : ℕ) (c : Conic) → length (flat (cutPoints f n c)) ≡ 4 * 2 ^ n
 numbers-length f n c = omega (arith, flat-length (cutPoints f n c), cut-length f n c)
 
+pinned-length : (n : ℕ) (c : Conic) → length (pinned n c) ≡ 2 * 2 ^ n + 1
+unfolding pinned
+pinned-length n c =
+    let pins = replicate (2 * 2 ^ n - 1) (c .p1) in
+    omega (arith, pow-pos n, length-append pins (c .p2 ∷ []), length-replicate (2 * 2 ^ n - 1) (c .p1))
+
+either-length : (b : Bool) (p q : List Point) (k : ℕ) → length p ≡ k → length q ≡ k → length (cond b p q) ≡ k
+either-length true p q k e g = e
+either-length false p q k e g = g
+
+pub written-length : (f : Conic → Halves) (n : ℕ) (c : Conic) → length (written f n c) ≡ 2 * 2 ^ n + 1
+unfolding written
+written-length f n c =
+    either-length (allFinite (plain f n c)) (plain f n c) (pinned n c) (2 * 2 ^ n + 1) (omega (arith, cut-length f n c)) (pinned-length n c)
+
 -- ---- the recursion: l before, l₁ between and l₂ after
-pub stored-zero : (f : Conic → Halves) (n : ℕ) (c : Conic) (l l₁ l₂ : List Float) (at r₁ r₂ : ℕ) → n ≡ 0
-    → (r₁ ≡ at + 2) × (l₁ ≡ sets l at (flat (c .p1 ∷ []))) → (r₂ ≡ r₁ + 2) × (l₂ ≡ sets l₁ r₁ (flat (c .p2 ∷ [])))
-    → (r₂ ≡ at + 4 * 2 ^ n) × (l₂ ≡ sets l at (flat (cutPoints f n c)))
-unfolding cutPoints flat
-stored-zero f n c l l₁ l₂ at r₁ r₂ h e g = rw h (
-  omega arith,
-  g .1 ∙ ap (λ (k : List Float). sets k r₁ (flat (c .p2 ∷ []))) (e .1) ∙ sets-then (flat (c .p1 ∷ [])) (flat (c .p2 ∷ [])) l at r₁ (e .0),
-)
+pub stored-zero : (f : Conic → Halves) (n : ℕ) (c : Conic) (l l₁ : List Float) (at r : ℕ) → n ≡ 0
+    → (r ≡ at + 4) × (l₁ ≡ sets l at (flat (c .p1 ∷ c .p2 ∷ []))) → (r ≡ at + 4 * 2 ^ n) × (l₁ ≡ sets l at (flat (cutPoints f n c)))
+unfolding cutPoints
+stored-zero f n c l l₁ at r h e = rw h (omega (arith, e .0), e .1)
 
 cut-more : (f : Conic → Halves) (n : ℕ) (c : Conic) → (n ≡ 0 → ⊥)
     → flat (cutPoints f n c) ≡ flat (cutPoints f (n - 1) (f c .first)) ++ flat (cutPoints f (n - 1) (f c .second))
@@ -68,17 +79,18 @@ unfolding cutPoints
 cut-more f zero c h = absurd (h refl)
 cut-more f (suc n) c h = rw sub-one (flat-append (cutPoints f n (f c .first)) (cutPoints f n (f c .second)))
 
-pub stored-more : (f : Conic → Halves) (n : ℕ) (c : Conic) (h : Halves) (l l₁ l₂ : List Float) (at r₁ r₂ : ℕ) → (n ≡ 0 → ⊥) → h ≡ f c
-    → (r₁ ≡ at + 4 * 2 ^ (n - 1)) × (l₁ ≡ sets l at (flat (cutPoints f (n - 1) (h .first))))
-    → (r₂ ≡ r₁ + 4 * 2 ^ (n - 1)) × (l₂ ≡ sets l₁ r₁ (flat (cutPoints f (n - 1) (h .second))))
+-- a and b are the halves, or others that are cut alike
+pub stored-more : (f : Conic → Halves) (n : ℕ) (c a b : Conic) (l l₁ l₂ : List Float) (at r₁ r₂ : ℕ) → (n ≡ 0 → ⊥)
+    → cutPoints f (n - 1) a ≡ cutPoints f (n - 1) (f c .first) → cutPoints f (n - 1) b ≡ cutPoints f (n - 1) (f c .second)
+    → (r₁ ≡ at + 4 * 2 ^ (n - 1)) × (l₁ ≡ sets l at (flat (cutPoints f (n - 1) a)))
+    → (r₂ ≡ r₁ + 4 * 2 ^ (n - 1)) × (l₂ ≡ sets l₁ r₁ (flat (cutPoints f (n - 1) b)))
     → (r₂ ≡ at + 4 * 2 ^ n) × (l₂ ≡ sets l at (flat (cutPoints f n c)))
-stored-more f n c h l l₁ l₂ at r₁ r₂ nz hh e g =
-    let a = flat (cutPoints f (n - 1) (h .first)) in
-    let b = flat (cutPoints f (n - 1) (h .second)) in (
+stored-more f n c a b l l₁ l₂ at r₁ r₂ nz ea eb e g =
+    let p = flat (cutPoints f (n - 1) a) in
+    let q = flat (cutPoints f (n - 1) b) in
+    let both : p ++ q ≡ flat (cutPoints f n c) = rw (ea, eb) (sym (cut-more f n c nz)) in (
       omega (arith, pow-more n nz),
-      g .1 ∙ ap (λ (k : List Float). sets k r₁ b) (e .1)
-          ∙ sets-then a b l at r₁ (omega (arith, numbers-length f (n - 1) (h .first)))
-          ∙ ap (sets l at) (ap (λ (k : Halves). flat (cutPoints f (n - 1) (k .first)) ++ flat (cutPoints f (n - 1) (k .second))) hh ∙ sym (cut-more f n c nz)),
+      g .1 ∙ ap (λ (k : List Float). sets k r₁ q) (e .1) ∙ sets-then p q l at r₁ (omega (arith, numbers-length f (n - 1) a)) ∙ ap (sets l at) both,
     )
 
 -- ---- the same point stored n times
@@ -131,18 +143,6 @@ cut-split f end (suc n) c =
     ap (λ (l : List Point). cutPoints f n (f c .first) ++ l) (cut-split f end n (f c .second) ∙ ap (λ (p : Point). inner f n (f c .second) ++ (p ∷ [])) (end c))
     ∙ sym (append-assoc (cutPoints f n (f c .first)) (inner f n (f c .second)) (c .p2 ∷ []))
 
-inner-length : (f : Conic → Halves) → KeepsEnd f → (n : ℕ) (c : Conic) → length (inner f n c) ≡ 2 * 2 ^ n - 1
-inner-length f end n c = omega (arith, cut-length f n c, ap length (cut-split f end n c), length-append (inner f n c) (c .p2 ∷ []))
-
--- points stored over those after the first
-stored-over : (p : Point) (a b t : List Point) (l : List Float) (r : ℕ) → r ≡ 0 + 2 → length a ≡ length b → sets (sets l 0 (flat (p ∷ (a ++ t)))) r (flat b) ≡ sets l 0 (flat (p ∷ (b ++ t)))
-unfolding flat
-stored-over p a b t l r e h =
-    let put : List Float → List Float = λ q. sets l 0 (p .x ∷ p .y ∷ q) in
-    ap (λ (q : List Float). sets (put q) r (flat b)) (flat-append a t)
-    ∙ sets-amid (p .x ∷ p .y ∷ []) (flat a) (flat b) (flat t) l 0 r e (omega (arith, flat-length a, flat-length b))
-    ∙ ap put (sym (flat-append b t))
-
 -- ---- the whole cut: l before, l₁ with the first point, l₂ with all of them
 module _ (f : Conic → Halves) (n : ℕ) (c : Conic) (l l₁ l₂ : List Float) (r₁ r₂ : ℕ)
     (put : (r₁ ≡ 0 + 2) × (l₁ ≡ sets l 0 (flat (c .p0 ∷ []))))
@@ -154,36 +154,26 @@ module _ (f : Conic → Halves) (n : ℕ) (c : Conic) (l l₁ l₂ : List Float)
       cut .1 ∙ ap (λ (k : List Float). sets k r₁ (flat (cutPoints f n c))) (put .1)
       ∙ sets-then (flat (c .p0 ∷ [])) (flat (cutPoints f n c)) l 0 r₁ (put .0)
 
-  -- the test reads what was stored
-  tested : allFinite (pointsOf (take r₂ l₂)) ≡ allFinite (plain f n c)
+  -- the test reads what was stored, from 0 to r₂
+  tested : allFinite (pointsOf (take (r₂ - 0) l₂)) ≡ allFinite (plain f n c)
   tested =
       let ps = plain f n c in
-      let there : take r₂ l₂ ≡ flat ps = ap (take r₂) all-stored ∙ sets-take (flat ps) l r₂ (omega (arith, flat-length ps, cut-length f n c)) (omega arith) in
+      let there : take (r₂ - 0) l₂ ≡ flat ps =
+      ap (take (r₂ - 0)) all-stored ∙ sets-take (flat ps) l (r₂ - 0) (omega (arith, flat-length ps, cut-length f n c)) (omega arith) in
       ap allFinite (ap pointsOf there ∙ points-flat ps)
 
-  pub stored-fine : (b : Bool) → b ≡ allFinite (pointsOf (take r₂ l₂)) → b ≡ true → l₂ ≡ sets l 0 (flat (written f n c))
+  pub stored-fine : (b : Bool) → b ≡ allFinite (pointsOf (take (r₂ - 0) l₂)) → b ≡ true → l₂ ≡ sets l 0 (flat (written f n c))
   unfolding written
   stored-fine b g t = all-stored ∙ rw (← tested, ← g, t)
 
-  pub stored-pinned : KeepsEnd f → (l₃ : List Float) (b : Bool) → b ≡ allFinite (pointsOf (take r₂ l₂)) → b ≡ false
-      → l₃ ≡ sets l₂ r₁ (flat (replicate (r₂ / 2 - 2) (c .p1))) → l₃ ≡ sets l 0 (flat (written f n c))
-  unfolding written pinned
-  stored-pinned end l₃ b g t h =
-      let many : r₂ / 2 - 2 ≡ 2 * 2 ^ n - 1 = omega (arith, pow-pos n) in
-      let pins = replicate (2 * 2 ^ n - 1) (c .p1) in
-      h ∙ rw (many, all-stored, ← tested, ← g, t, cut-split f end n c)
-      (stored-over (c .p0) (inner f n c) pins (c .p2 ∷ []) l r₁ (put .0) (inner-length f end n c ∙ sym (length-replicate (2 * 2 ^ n - 1) (c .p1))))
-
-either-length : (b : Bool) (p q : List Point) (k : ℕ) → length p ≡ k → length q ≡ k → length (cond b p q) ≡ k
-either-length true p q k e g = e
-either-length false p q k e g = g
-
-pub written-length : (f : Conic → Halves) (n : ℕ) (c : Conic) → length (written f n c) ≡ 2 * 2 ^ n + 1
-unfolding written pinned
-written-length f n c =
-    let pins = replicate (2 * 2 ^ n - 1) (c .p1) in
-    either-length (allFinite (plain f n c)) (plain f n c) (pinned n c) (2 * 2 ^ n + 1) (omega (arith, cut-length f n c))
-    (omega (arith, pow-pos n, length-append pins (c .p2 ∷ []), length-replicate (2 * 2 ^ n - 1) (c .p1)))
+  pub stored-pinned : (l₃ : List Float) (b : Bool) → b ≡ allFinite (pointsOf (take (r₂ - 0) l₂)) → b ≡ false
+      → l₃ ≡ sets l₂ 0 (flat (pinned n c)) → l₃ ≡ sets l 0 (flat (written f n c))
+  unfolding written
+  stored-pinned l₃ b g t h =
+      let p = plain f n c in
+      let q = pinned n c in
+      let long : length (flat p) ≡ length (flat q) = omega (arith, flat-length p, flat-length q, cut-length f n c, pinned-length n c) in
+      h ∙ rw (all-stored, ← tested, ← g, t) (sets-again (flat p) (flat q) l 0 long)
 
 -- ---- an end that is not finite
 all-append : (l : List Point) (p : Point) → allFinite (l ++ (p ∷ [])) ≡ (allFinite l && pointFinite p)

@@ -4,18 +4,23 @@ ghost use mathlib.Core.List.{[], _∷_};
 ghost use Prim.Native.Nat.{_+_, _*_, _^_, _≤_};
 ghost use lib.ListN.{length, replicate};
 ghost use lib.Seq.{sets};
-ghost use Rattle.conic.specs.Chop.{conicFrom, chopBy};
-ghost use Rattle.point.specs.Point.{pointFrom};
+ghost use Rattle.conic.specs.Chop.{chopBy};
 ghost use Rattle.point.specs.Numbers.{flat, pointsOf};
-ghost use Rattle.conic_cut.specs.Ladder.{rungsOf, Rungs};
+ghost use Rattle.conic_cut.specs.Ladder.{deepest, rungsOf, Rungs};
 ghost use Rattle.conic_cut.specs.Cut.{allFinite, cutPoints, pinned, written};
 use conic::Conic;
 use conic::Rule;
+use conic::depth::Depth;
 use point::Point;
+
+// The highest level that the functions here take: above the ceiling of a call, so that a higher one asks nothing of them.
+const DEEPEST: usize = 6;
+// Two numbers for each level.
+const RUNGS: usize = 2 * DEEPEST;
 
 // 2 to the level.
 pub fn quads(level: u32) -> usize
-    requires { ⌜ level ≤ 6 ⌝ }
+    requires { ⌜ level ≤ deepest ⌝ }
     ensures { λ r. ⌜ r ≡ 2 ^ level ⌝ }
 {
     1usize << level
@@ -32,81 +37,56 @@ fn put(out: &mut [f32], at: usize, p: Point) -> usize
     next + 1
 }
 
-// The scale and the weight of the halves for each level of a cut: a root and a division for each depth, and not for
-// each chop.
-fn ladder(rungs: &mut [f32; 12], weight: f32, level: u32)
-    requires { ⌜ level ≤ 6 ⌝ }
+// The rungs of a cut: a root and a division for each depth, and not for each chop. The halves of level 0 are stored and
+// not cut, so that their weight is never asked for.
+fn ladder(rungs: &mut [f32; RUNGS], weight: f32, level: u32)
+    requires { ⌜ level ≤ deepest ⌝ }
     ensures { λ _. ⌜ now (rungs .exit) ≡ rungsOf (now (rungs .entry)) level weight ⌝ }
 {
     let mut w = weight;
     let mut n = level as usize;
-    while n > 0 {
+    while n > 1 {
         n -= 1;
-        rungs[2 * n] = Conic::scale(w);
+        rungs[2 * n] = Depth::scale_of(w);
         w = Conic::subdivide_weight_value(w);
         rungs[2 * n + 1] = w;
     }
+    if n > 0 {
+        rungs[0] = Depth::scale_of(w);
+    }
 }
 
-// Stores all the points of the cut but the first from `at` on, and answers the next place. The conic comes as plain
-// numbers, which stay in registers where a struct would go through memory.
+// Stores the points of c, as a quad, but the first, and answers the next place.
+fn put_quad(out: &mut [f32], at: usize, c: Conic) -> usize
+    requires { ⌜ at + 4 ≤ length (now out) ⌝ }
+    ensures { λ r. ⌜ (r ≡ at + 4) × (now (out .exit) ≡ sets (now (out .entry)) at (flat (c .p1 ∷ c .p2 ∷ []))) ⌝ }
+{
+    let next = put(out, at, c.p1);
+    put(out, next, c.p2)
+}
+
+// Stores all the points of the cut but the first from `at` on, and answers the next place.
 fn subdivide(
     out: &mut [f32],
     at: usize,
-    rungs: &[f32; 12],
+    rungs: &[f32; RUNGS],
     rule: Rule,
-    x0: f32,
-    y0: f32,
-    x1: f32,
-    y1: f32,
-    x2: f32,
-    y2: f32,
-    weight: f32,
+    c: Conic,
     level: u32,
 ) -> usize
-    requires { ⌜ at + 4 * 2 ^ level ≤ length (now out) ⌝ ∗ ⌜ level ≤ 6 ⌝ ∗ ⌜ Rungs (now rungs) level weight ⌝ }
-    ensures { λ r. ⌜ (r ≡ at + 4 * 2 ^ level) × (now (out .exit) ≡ sets (now (out .entry)) at (flat (cutPoints (chopBy rule) level (conicFrom (pointFrom x0 y0) (pointFrom x1 y1) (pointFrom x2 y2) weight)))) ⌝ }
+    requires { ⌜ at + 4 * 2 ^ level ≤ length (now out) ⌝ ∗ ⌜ level ≤ deepest ⌝ ∗ ⌜ Rungs (now rungs) level (c .weight) ⌝ }
+    ensures { λ r. ⌜ (r ≡ at + 4 * 2 ^ level) × (now (out .exit) ≡ sets (now (out .entry)) at (flat (cutPoints (chopBy rule) level c))) ⌝ }
 {
-    let p1 = Point { x: x1, y: y1 };
-    let p2 = Point { x: x2, y: y2 };
     if level == 0 {
-        let next = put(out, at, p1);
-        return put(out, next, p2);
+        return put_quad(out, at, c);
     }
     let less = level - 1;
     let rung = 2 * (less as usize);
-    let p0 = Point { x: x0, y: y0 };
-    let h = Conic { p0, p1, p2, weight }.chop_at(rule, rungs[rung], rungs[rung + 1]);
-    let a = h.first;
-    let b = h.second;
-    let next = subdivide(
-        out,
-        at,
-        rungs,
-        rule,
-        a.p0.x,
-        a.p0.y,
-        a.p1.x,
-        a.p1.y,
-        a.p2.x,
-        a.p2.y,
-        a.weight,
-        less,
-    );
-    subdivide(
-        out,
-        next,
-        rungs,
-        rule,
-        b.p0.x,
-        b.p0.y,
-        b.p1.x,
-        b.p1.y,
-        b.p2.x,
-        b.p2.y,
-        b.weight,
-        less,
-    )
+    let scale = rungs[rung];
+    let weight = rungs[rung + 1];
+    let h = Depth { scale, weight }.chop(rule, c);
+    let next = subdivide(out, at, rungs, rule, h.first, less);
+    subdivide(out, next, rungs, rule, h.second, less)
 }
 
 // Whether each point of s, two numbers a point, passes the crate's finite test.
@@ -141,36 +121,22 @@ fn pin(out: &mut [f32], at: usize, p: Point, n: usize)
 
 // Stores all the points of the cut. Where one is not finite, all but the first and the last become c's middle point.
 fn store_cut(out: &mut [f32], rule: Rule, c: Conic, level: u32)
-    requires { ⌜ 2 + 4 * 2 ^ level ≤ length (now out) ⌝ ∗ ⌜ level ≤ 6 ⌝ }
+    requires { ⌜ 2 + 4 * 2 ^ level ≤ length (now out) ⌝ ∗ ⌜ level ≤ deepest ⌝ }
     ensures { λ _. ⌜ now (out .exit) ≡ sets (now (out .entry)) 0 (flat (written (chopBy rule) level c)) ⌝ }
 {
-    let mut rungs = [0.0f32; 12];
+    let mut rungs = [0.0f32; RUNGS];
     ladder(&mut rungs, c.weight, level);
     let at = put(out, 0, c.p0);
-    let end = subdivide(
-        out,
-        at,
-        &rungs,
-        rule,
-        c.p0.x,
-        c.p0.y,
-        c.p1.x,
-        c.p1.y,
-        c.p2.x,
-        c.p2.y,
-        c.weight,
-        level,
-    );
-    if all_finite(&out[..end]) {
+    let end = subdivide(out, at, &rungs, rule, c, level);
+    if all_finite(&out[0..end]) {
         return;
     }
-    let interior = end / 2 - 2;
-    pin(out, at, c.p1, interior);
+    store_pinned(out, c, level);
 }
 
 // Stores c's ends, with its middle point in every place between them.
 fn store_pinned(out: &mut [f32], c: Conic, level: u32)
-    requires { ⌜ 2 + 4 * 2 ^ level ≤ length (now out) ⌝ ∗ ⌜ level ≤ 6 ⌝ }
+    requires { ⌜ 2 + 4 * 2 ^ level ≤ length (now out) ⌝ ∗ ⌜ level ≤ deepest ⌝ }
     ensures { λ _. ⌜ now (out .exit) ≡ sets (now (out .entry)) 0 (flat (pinned level c)) ⌝ }
 {
     let interior = 2 * quads(level) - 1;
@@ -181,7 +147,7 @@ fn store_pinned(out: &mut [f32], c: Conic, level: u32)
 
 // The same as `store_cut`. Where an end is not finite the points are pinned whatever the cut is, so it is not made.
 pub fn store(out: &mut [f32], rule: Rule, c: Conic, level: u32)
-    requires { ⌜ 2 + 4 * 2 ^ level ≤ length (now out) ⌝ ∗ ⌜ level ≤ 6 ⌝ }
+    requires { ⌜ 2 + 4 * 2 ^ level ≤ length (now out) ⌝ ∗ ⌜ level ≤ deepest ⌝ }
     ensures { λ _. ⌜ now (out .exit) ≡ sets (now (out .entry)) 0 (flat (written (chopBy rule) level c)) ⌝ }
 {
     let p0 = c.p0;

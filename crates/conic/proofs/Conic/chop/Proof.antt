@@ -5,7 +5,7 @@ use Rattle.conic.proofs.Conic.chop.Tie as tie
 
 returns : tie.Need-returns
 unfolding chopOf
-returns c = rw (c .halves .ensures, c .before .before .chopped .ensures, c .before .subdivide-weight-value .ensures, c .before .before .before .scale .ensures)
+returns c = rw (c .halves .ensures, c .before .chopped .ensures, c .before .before .of .ensures)
 
 pub chop-spec : {M : Type 1} → statement M
-chop-spec = tie.close (tie.spec (λ c κs. tt) (λ c κs. tt) (λ c κs. tt) (λ c κs. tt) returns)
+chop-spec = tie.close (tie.spec (λ c κs. tt) (λ c κs. tt) (λ c κs. tt) returns)

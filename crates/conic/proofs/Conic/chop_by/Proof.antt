@@ -5,7 +5,7 @@ use Rattle.conic.proofs.Conic.chop_by.Tie as tie
 
 returns : tie.Need-returns
 unfolding chopBy
-returns c = rw (c .chop-at .ensures, c .before .subdivide-weight-value .ensures, c .before .before .scale .ensures)
+returns c = rw (c .chop .ensures, c .before .of .ensures)
 
 pub chop-by-spec : {M : Type 1} → statement M
-chop-by-spec = tie.close (tie.spec (λ c κs. tt) (λ c κs. tt) (λ c κs. tt) returns)
+chop-by-spec = tie.close (tie.spec (λ c κs. tt) (λ c κs. tt) returns)

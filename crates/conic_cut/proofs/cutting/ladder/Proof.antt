@@ -3,13 +3,13 @@ use mathlib.Core.Path.{_≡_, refl, sym, _∙_}
 use Prim.Native.Nat.{_≤_}
 use native.Mathlib.Omega.{arith}
 use borrow.Author.Needs.{needs}
-use Rattle.conic_cut.specs.Ladder.{rungsOf}
-use Rattle.conic_cut.proofs.Ladder.{rungs-more, rungs-done}
+use Rattle.conic_cut.specs.Ladder.{deepest, rungsOf}
+use Rattle.conic_cut.proofs.Ladder.{rungs-more, rungs-last, rungs-none}
 use Rattle.conic_cut.proofs.cutting.ladder.Statement.{statement}
 use Rattle.conic_cut.proofs.cutting.ladder.Tie as tie
 
 abbrev Inv-loop : tie.InvT-loop
-Inv-loop rungs₀ weight level w₀ n₀ rungs w n = (n ≤ 6) × (rungsOf rungs n w ≡ rungsOf rungs₀ level weight)
+Inv-loop rungs₀ weight level w₀ n₀ rungs w n = (n ≤ deepest) × (rungsOf rungs n w ≡ rungsOf rungs₀ level weight)
 
 abbrev μ-loop : tie.MeasureT-loop
 μ-loop rungs₀ weight level w₀ n₀ rungs w n = n
@@ -20,8 +20,8 @@ loop-holds c = (c .pre, refl)
 sub-n : tie.Need-sub-n Inv-loop μ-loop
 sub-n c = omega arith
 
-scale-requires : tie.Need-scale-requires Inv-loop μ-loop
-scale-requires c κs = search needs
+scale-of-requires : tie.Need-scale-of-requires Inv-loop μ-loop
+scale-of-requires c κs = search needs
 
 mul-rungs : tie.Need-mul-rungs Inv-loop μ-loop
 mul-rungs c = omega arith
@@ -53,13 +53,25 @@ loop-less c = omega arith
 loop-again : tie.Need-loop-again Inv-loop μ-loop
 loop-again c =
     let at = c .before .before .before .loop in
-    let more = rungs-more (at .n) (at .rungs) (at .w) (λ e. omega (arith, e, c .before .before .loop-test .taken)) in
-    (omega arith, rw (c .before .scale .ensures, c .subdivide-weight-value .ensures) (more ∙ at .inv .1))
+    let more = rungs-more (at .n) (at .rungs) (at .w) (c .before .before .loop-test .taken) in
+    (omega arith, rw (c .before .scale-of .ensures, c .subdivide-weight-value .ensures) (more ∙ at .inv .1))
+
+scale-of-requires-2 : tie.Need-scale-of-requires-2 Inv-loop μ-loop
+scale-of-requires-2 c κs = search needs
+
+element-write-rungs-3 : tie.Need-element-write-rungs-3 Inv-loop μ-loop
+element-write-rungs-3 c = search needs
 
 returns : tie.Need-returns Inv-loop μ-loop
 returns c =
-    let at = c .before .loop in
-    sym (rungs-done (at .n) (at .rungs) (at .w) (omega (arith, c .loop-test .left))) ∙ at .inv .1
+    let at = c .before .before .before .loop in
+    let last : at .n ≡ 1 = omega (arith, c .before .before .loop-test .left, c .before .if1 .taken) in
+    rw (c .scale-of2 .ensures) (rungs-last (at .n) (at .rungs) (at .w) last ∙ at .inv .1)
+
+returns-2 : tie.Need-returns-2 Inv-loop μ-loop
+returns-2 c =
+    let at = c .before .before .loop in
+    rungs-none (at .n) (at .rungs) (at .w) (omega (arith, c .if1 .left)) ∙ at .inv .1
 
 pub ladder-spec : {M : Type 1} → statement M
 ladder-spec =
@@ -69,7 +81,7 @@ ladder-spec =
     μ-loop
     loop-holds
     sub-n
-    scale-requires
+    scale-of-requires
     mul-rungs
     mul-rungs-2
     element-write-rungs
@@ -80,4 +92,7 @@ ladder-spec =
     element-write-rungs-2
     loop-less
     loop-again
-    returns)
+    scale-of-requires-2
+    element-write-rungs-3
+    returns
+    returns-2)

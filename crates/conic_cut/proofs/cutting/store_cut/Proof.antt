@@ -1,18 +1,16 @@
 -- `store_cut` meets its contract, with the points as they are cut and with the interior pinned. Assumes nothing.
-use mathlib.Core.Path.{sym, subst⁻¹}
+use mathlib.Core.Path.{subst⁻¹}
 use mathlib.Core.List.{List}
 use native.Mathlib.Omega.{arith}
 use borrow.Author.Needs.{needs}
-use lib.Seq.{length-take-le}
-use lib.Pow.{pow-pos}
 use lib.ListN.{replicate, length-replicate}
 use lib.Ieee.{Float}
+use Prim.Native.Nat.{_*_}
 use Rattle.float_laws.specs.Formula.{zero32}
+use Rattle.conic.specs.Chop.{chopBy}
+use Rattle.conic_cut.specs.Ladder.{deepest, Rungs}
 use Rattle.conic_cut.proofs.Ladder.{rungs-hold}
 use Rattle.conic_cut.proofs.Stores.{stored-fine, stored-pinned}
-use Rattle.conic_cut.proofs.Order.{joined}
-use Rattle.conic.specs.Chop.{chopBy}
-use Rattle.conic_cut.specs.Ladder.{Rungs}
 use Rattle.conic_cut.proofs.cutting.store_cut.Statement.{statement}
 use Rattle.conic_cut.proofs.cutting.store_cut.Tie as tie
 
@@ -27,18 +25,18 @@ subdivide-requires c κs =
     let s = c .before .before .before .before .before .before .before .before .before in
     let put = c .before .before .before .before .put in
     let made = c .before .before .before .before .before .before .ladder in
-    let empty = replicate 12 zero32 in
-    let held = rungs-hold (s .args .level) empty (s .args .c .weight) (omega (arith, s .pre .1, length-replicate 12 zero32)) in
+    let empty = replicate (2 * deepest) zero32 in
+    let held = rungs-hold (s .args .level) empty (s .args .c .weight) (omega (arith, s .pre .1, length-replicate (2 * deepest) zero32)) in
     (omega (arith, s .pre .0, put .ensures .0, put .kept .0), (s .pre .1, subst⁻¹ (λ (l : List Float). Rungs l (s .args .level) (s .args .c .weight)) (made .ensures) held))
 
-slice-reshare-prefix-all-finite : tie.Need-slice-reshare-prefix-all-finite
-slice-reshare-prefix-all-finite c = search needs
+sub-all-finite : tie.Need-sub-all-finite
+sub-all-finite c = search needs
 
-slice-aggregate-all-finite : tie.Need-slice-aggregate-all-finite
-slice-aggregate-all-finite c =
-    let put = c .before .before .before .before .before .before .before .before .put in
-    let cut = c .before .before .before .subdivide in
-    sym (length-take-le (cut .result) (cut .last .0) (omega (arith, c .before .before .before .before .before .before .before .before .before .before .before .before .before .pre .0, put .ensures .0, put .kept .0, cut .ensures .0, cut .kept .0)))
+part-all-finite-start : tie.Need-part-all-finite-start
+part-all-finite-start c = search needs
+
+part-all-finite-end : tie.Need-part-all-finite-end
+part-all-finite-end c = search needs
 
 all-finite-requires : tie.Need-all-finite-requires
 all-finite-requires c κs = search needs
@@ -48,33 +46,30 @@ same-length c = search needs
 
 returns : tie.Need-returns
 returns c =
-    let s = c .before .before .before .before .before .before .before .before .before .before .before .before .before .before .before in
+    let s = c .before .before .before .before .before .before .before .before .before .before .before .before .before .before .before .before in
     let a = s .args in
-    let put = c .before .before .before .before .before .before .before .before .before .before .put in
-    let cut = c .before .before .before .before .before .subdivide in
+    let put = c .before .before .before .before .before .before .before .before .before .before .before .put in
+    let cut = c .before .before .before .before .before .before .subdivide in
     let test = c .before .all-finite in
     stored-fine (chopBy (a .rule)) (a .level) (a .c) (a .out .now) (put .last .0) (cut .last .0) (put .result) (cut .result)
     (put .ensures) (cut .ensures) (s .pre .0) (test .result) (test .ensures) (c .if1 .taken)
 
-sub-interior : tie.Need-sub-interior
-sub-interior c = omega (arith, c .before .before .before .before .before .subdivide .ensures .0, c .before .before .before .before .before .before .before .before .before .before .put .ensures .0, pow-pos (c .before .before .before .before .before .before .before .before .before .before .before .before .before .before .before .args .level))
-
-pin-requires : tie.Need-pin-requires
-pin-requires c κs = search needs
+store-pinned-requires : tie.Need-store-pinned-requires
+store-pinned-requires c κs = search needs
 
 same-length-2 : tie.Need-same-length-2
 same-length-2 c = search needs
 
 returns-2 : tie.Need-returns-2
 returns-2 c =
-    let s = c .before .before .before .before .before .before .before .before .before .before .before .before .before .before .before .before .before .before .before in
+    let s = c .before .before .before .before .before .before .before .before .before .before .before .before .before .before .before .before .before .before .before .before in
     let a = s .args in
-    let put = c .before .before .before .before .before .before .before .before .before .before .before .before .before .before .put in
-    let cut = c .before .before .before .before .before .before .before .before .before .subdivide in
+    let put = c .before .before .before .before .before .before .before .before .before .before .before .before .before .before .before .put in
+    let cut = c .before .before .before .before .before .before .before .before .before .before .subdivide in
     let test = c .before .before .before .before .before .all-finite in
-    let pin = c .before .before .pin in
+    let pin = c .before .before .store-pinned in
     stored-pinned (chopBy (a .rule)) (a .level) (a .c) (a .out .now) (put .last .0) (cut .last .0) (put .result) (cut .result)
-    (put .ensures) (cut .ensures) (s .pre .0) (joined (a .rule) .end) (pin .last .0) (test .result) (test .ensures) (c .before .before .before .before .if1 .left) (pin .ensures)
+    (put .ensures) (cut .ensures) (s .pre .0) (pin .last .0) (test .result) (test .ensures) (c .before .before .before .before .if1 .left) (pin .ensures)
 
 pub store-cut-spec : {M : Type 1} → statement M
 store-cut-spec =
@@ -83,12 +78,12 @@ store-cut-spec =
     ladder-requires
     put-requires
     subdivide-requires
-    slice-reshare-prefix-all-finite
-    slice-aggregate-all-finite
+    sub-all-finite
+    part-all-finite-start
+    part-all-finite-end
     all-finite-requires
     same-length
     returns
-    sub-interior
-    pin-requires
+    store-pinned-requires
     same-length-2
     returns-2)
