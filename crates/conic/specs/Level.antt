@@ -58,7 +58,7 @@ refuseLevel short c t refused well =
 unfoldable pub levelAnswer : Bool → Conic → Float → Level
 levelAnswer short c t = refuseLevel short c t Refused (Pow2 (levelOf c t))
 
--- the answer, its number and its values; no two answers are it (`proofs/Unique`)
+-- the answer, its number and its values; two answers that meet it are one (`one-chosen` of proofs/Unique)
 pub record Chosen (short : Bool) (c : Conic) (t : Float) (r : Level) : Type 0 where
   pub answer : r ≡ levelAnswer short c t
   pub number : numberOfLevel r ≡ refuseLevel short c t numberOf 0

@@ -1,4 +1,4 @@
--- The corrections after a chop, along one axis: from the start a to the end c the line l must not turn back. Definitions only.
+-- The corrections after a chop, along one axis: what a rule makes of the line l from the start a to the end c. Definitions only.
 use mathlib.Core.Bool.{Bool, cond, _&&_}
 use lib.Ieee.{Float, lt}
 use Rattle.float_laws.specs.Absolute.{absOf}

@@ -24,7 +24,7 @@ refuseSource l refused well = cond (ltb (length l) 6) (refused BufferTooShort) w
 unfoldable pub sourceAnswer : List Float → Float → FromPoints
 sourceAnswer l w = refuseSource l Refused (Made (conicOf l w))
 
--- the answer, its number and its values; no two answers are it (`proofs/Unique`)
+-- the answer, its number and its values; two answers that meet it are one (`one-taken` of proofs/Unique)
 pub record Taken (l : List Float) (w : Float) (r : FromPoints) : Type 0 where
   pub answer : r ≡ sourceAnswer l w
   pub number : numberOfFromPoints r ≡ refuseSource l numberOf 0

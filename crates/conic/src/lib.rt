@@ -95,14 +95,15 @@ impl Level {
     }
 }
 
-// The crate's test. It fails where the product overflows to the wrong side, and passes where it underflows.
+// The crate's test: whether (a - b)(c - b), each operation rounded, is at most 0. So it passes where the product underflows
+// to 0, and fails where it is NaN, as infinity times 0 is.
 pub fn between_product(a: f32, b: f32, c: f32) -> bool
     ensures { λ r. ⌜ r ≡ productTest a b c ⌝ }
 {
     (a - b) * (c - b) <= 0.0
 }
 
-// Whether b lies between a and c, or equals one of them.
+// Whether a ≤ b ≤ c or a ≥ b ≥ c; never where one of them is NaN.
 pub fn between_exact(a: f32, b: f32, c: f32) -> bool
     ensures { λ r. ⌜ r ≡ exactTest a b c ⌝ }
 {
@@ -175,7 +176,8 @@ impl Conic {
         Depth::of(self.weight).chop(rule, self)
     }
 
-    // The level at which the quads are within the tolerance of the conic, from 1 to 4. Refused for a bad tolerance, and then for a point that is not finite.
+    // The least level, from 1 on, at which the estimate of the quads' distance from the conic is within the tolerance; at
+    // most 4, where it need not be. Refused for a bad tolerance, and then for a point that is not finite.
     pub fn compute_quad_pow2(self, tolerance: f32) -> Level
         ensures { λ r. ⌜ Chosen false self tolerance r ⌝ }
     {

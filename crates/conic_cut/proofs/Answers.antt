@@ -1,4 +1,4 @@
--- The answer and the buffer of a cut, by the tests that led there, and demand 3 of the buffer. Assumes nothing.
+-- The answer and the buffer of a cut, by the tests that led there, and the order of the ys in the buffer. Assumes nothing.
 use mathlib.Core.Path.{_≡_, refl, sym, ap, _∙_, subst⁻¹}
 use mathlib.Core.Bool.{Bool, true, false, cond, _||_}
 use mathlib.Core.List.{List, _++_}

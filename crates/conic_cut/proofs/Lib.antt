@@ -5,3 +5,4 @@ mod Ladder
 mod Lists
 pub mod Order
 mod Stores
+pub mod Unique

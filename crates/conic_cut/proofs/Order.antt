@@ -1,4 +1,4 @@
--- Demand 3 of the points of a cut, once for both directions, either axis and every level. Assumes nothing.
+-- Along an axis that a rule puts in order the points of a cut keep one direction: once for both directions, either axis and every level. Assumes nothing.
 use mathlib.Core.Path.{_≡_, refl, ap, _∙_, subst, subst⁻¹}
 use mathlib.Core.Logic.{inl, inr, ⊎-elim}
 use mathlib.Core.Bool.{Bool, true, false, cond}

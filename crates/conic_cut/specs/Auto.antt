@@ -35,7 +35,7 @@ autoAnswer c = refuseAuto c Refused (Quads (2 ^ autoLevel c))
 unfoldable pub autoPoints : Conic → List Float
 autoPoints c = refuseAuto c (λ _. zeros) (flat (written (chopBy Product) (autoLevel c) c) ++ drop (room (autoLevel c)) zeros)
 
--- the answer, its number and its values, and the points; no two results are it (`proofs/Unique`)
+-- the answer, its number and its values, and the points; two results that meet it are one (`one-computed` of proofs/Unique)
 pub record Computed (c : Conic) (r : AutoConicToQuads) : Type 0 where
   pub answer : r .answer ≡ autoAnswer c
   pub number : numberOfCut (r .answer) ≡ refuseAuto c numberOf 0

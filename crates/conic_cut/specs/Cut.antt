@@ -64,7 +64,7 @@ abbrev pub valuesOfCut : Cut → List ℕ
 valuesOfCut (Quads q) = q ∷ []
 valuesOfCut (Refused r) = valuesOf r
 
--- the answer, its number and its values, and the buffer at exit; no two answers and buffers are it (`proofs/Unique`)
+-- the answer, its number and its values, and the buffer at exit; two that meet it are one (`one-cut` of proofs/Unique)
 pub record CutInto (f : Conic → Halves) (n : ℕ) (c : Conic) (short : Bool) (l : List Float) (r : Cut) (l₁ : List Float) : Type 0 where
   pub answer : r ≡ cutAnswer n (length l) short
   pub number : numberOfCut r ≡ refuse n (length l) short numberOf 0

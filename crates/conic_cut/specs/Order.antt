@@ -1,4 +1,4 @@
--- What it is for points to run one way along an axis, and demand 3 of a cut. Definitions only.
+-- What it is for points to run one way along an axis, and where those of a cut do: docs/RULES.md, "Order". Definitions only.
 use Prim.Native.Nat.{ℕ, _+_, _*_, _^_, _≤_}
 use mathlib.Core.Path.{_≡_}
 use mathlib.Core.Bool.{Bool}
@@ -55,7 +55,7 @@ pub record Bridge (k : Axis) (c : Conic) : Type 0 where
   pub end : Finite (c .p2)
   pub between : T (exactTest (along k (c .p0)) (along k (c .p1)) (along k (c .p2)))
 
--- the points lead from the conic's start to its end, all finite, and along k they don't turn back
+-- the points lead from the conic's start to its end, all finite, and along k they only rise or only fall
 pub record InOrder (k : Axis) (c : Conic) (ps : List Point) : Type 0 where
   pub one-way : OneWay k ps
   pub all-finite : AllFinite ps
@@ -69,6 +69,6 @@ pub record OrderedCut (k : Axis) (n : ℕ) (c : Conic) (l l₁ : List Float) : T
   pub stored : l₁ ≡ flat points ++ drop (room n) l
   pub in-order : InOrder k c points
 
--- demand 3
+-- docs/RULES.md, "Order": by the exact rule, of the ys
 abbrev pub OrderKept : Rule → ℕ → Conic → List Float → List Float → Type 0
 OrderKept u n c l l₁ = u ≡ Exact → n ≤ ceiling → room n ≤ length l → Bridge Y c → OrderedCut Y n c l l₁

@@ -1,4 +1,6 @@
-// Conics cut into quads. By the exact rule the cut never turns back: the second clause of `chop_into_quads_pow2`'s contract.
+// Conics cut into quads. By the exact rule, where the three points are finite and the middle y lies between the end ys or
+// equals one of them, the ys along the written points only rise or only fall: the clause `order` of the contracts. Nothing
+// is said of the xs.
 // Carried over from `path_geometry.rs` of tiny-skia-path 0.12.0; the rule, and an answer for each refusal, are added.
 ghost use mathlib.Core.Path.{_≡_};
 ghost use mathlib.Core.Bool.{false};

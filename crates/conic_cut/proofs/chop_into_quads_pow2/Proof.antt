@@ -1,4 +1,4 @@
--- `chop_into_quads_pow2` meets its contract, demand 3 with it: each answer by the tests that led to it. Assumes nothing.
+-- `chop_into_quads_pow2` meets its contract, the order of the ys with it: each answer by the tests that led to it. Assumes nothing.
 use mathlib.Core.Bool.{false}
 use mathlib.Core.Path.{_∙_, ap}
 use Prim.Native.Nat.{_≤_, _<_}

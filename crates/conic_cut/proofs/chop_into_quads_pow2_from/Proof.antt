@@ -1,4 +1,4 @@
--- `chop_into_quads_pow2_from` meets its contract, demand 3 with it: each answer by the tests that led to it. Assumes nothing.
+-- `chop_into_quads_pow2_from` meets its contract, the order of the ys with it: each answer by the tests that led to it. Assumes nothing.
 use mathlib.Core.Bool.{or-true}
 use mathlib.Core.Path.{_∙_, ap, sym}
 use borrow.Author.Needs.{needs}

@@ -1,0 +1,16 @@
+-- Two answers that meet a contract of this crate are the same. Assumes nothing.
+use mathlib.Core.Path.{_≡_, sym, _∙_}
+use mathlib.Core.Bool.{Bool}
+use mathlib.Core.List.{List}
+use lib.Ieee.{Float}
+use Rattle.conic.specs.declared.Conic.{Conic}
+use Rattle.conic.specs.declared.FromPoints.{FromPoints}
+use Rattle.conic.specs.declared.Level.{Level}
+use Rattle.conic.specs.Level.{Chosen}
+use Rattle.conic.specs.Source.{Taken}
+
+pub one-taken : (l : List Float) (w : Float) (r s : FromPoints) → Taken l w r → Taken l w s → r ≡ s
+one-taken l w r s p q = p .answer ∙ sym (q .answer)
+
+pub one-chosen : (short : Bool) (c : Conic) (t : Float) (r s : Level) → Chosen short c t r → Chosen short c t s → r ≡ s
+one-chosen short c t r s p q = p .answer ∙ sym (q .answer)
