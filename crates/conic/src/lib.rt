@@ -194,7 +194,8 @@ impl Conic {
     pub fn compute_quad_pow2_from(src: &[f32], weight: f32, tolerance: f32) -> Level
         ensures { λ r. ⌜ Chosen (ltb (length (now (src .entry))) 6) (conicOf (now (src .entry)) weight) tolerance r ⌝ }
     {
-        if leveling::is_bad(tolerance) {
+        let bad = leveling::is_bad(tolerance);
+        if bad {
             return Level::Refused(Refusal::BadTolerance);
         }
         match Conic::from_points(src, weight) {

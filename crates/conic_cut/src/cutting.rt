@@ -140,9 +140,9 @@ fn store_pinned(out: &mut [f32], c: Conic, level: u32)
     ensures { λ _. ⌜ now (out .exit) ≡ sets (now (out .entry)) 0 (flat (pinned level c)) ⌝ }
 {
     let interior = 2 * quads(level) - 1;
-    let at = put(out, 0, c.p0);
-    pin(out, at, c.p1, interior);
-    put(out, at + 2 * interior, c.p2);
+    let next = put(out, 0, c.p0);
+    pin(out, next, c.p1, interior);
+    put(out, next + 2 * interior, c.p2);
 }
 
 // The same as `store_cut`. Where an end is not finite the points are pinned whatever the cut is, so it is not made.

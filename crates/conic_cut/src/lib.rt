@@ -67,7 +67,7 @@ pub fn chop_into_quads_pow2_from(
     ensures { λ r. ⌜ CutInto (chopBy rule) level (conicOf (now (src .entry)) weight) (ltb (length (now (src .entry))) 6) (now (out .entry)) r (now (out .exit)) ⌝ }
     ensures order { λ _. ⌜ (6 ≤ length (now (src .entry)) → OrderKept rule level (conicOf (now (src .entry)) weight) (now (out .entry)) (now (out .exit))) ⌝ }
 {
-    if Conic::MAX_CONIC_TO_QUAD_POW2 < level {
+    if level > Conic::MAX_CONIC_TO_QUAD_POW2 {
         return Cut::Refused(Refusal::LevelTooHigh);
     }
     match Conic::from_points(src, weight) {
