@@ -19,11 +19,13 @@ same-if : (b : Bool) (x y l : Line) → (T b → x ≡ y) → cond b x l ≡ con
 same-if true x y l h = h tt
 same-if false x y l h = refl
 
-same-mended : (u v : Rule) (a b c : Float) (l : Line) → Alike u v a b c → (T (test u a b c) → LineAlike u v a c l) → mendedOf u a b c l ≡ mendedOf v a b c l
+same-mended : (u v : Rule) (a b c : Float) (l : Line) → Alike u v a b c → (T (test u a b c) → LineAlike u v a c l)
+    → mendedOf u a b c l ≡ mendedOf v a b c l
 unfolding mendedOf
 same-mended u v a b c l e h = rw (← e) (same-if (test u a b c) (orderedOf u a c l) (orderedOf v a c l) l (λ t. same-ordered u v a c l (h t)))
 
 pub same-halves : (u v : Rule) (c : Conic) → ChopAlike u v c → chopBy u c ≡ chopBy v c
 unfolding chopAt chopBy
 same-halves u v c h =
-    ap (λ (y : Line). halvesAt (weightOf (c .weight)) c (record { x = linesOf c .x; y = y })) (same-mended u v (c .p0 .y) (c .p1 .y) (c .p2 .y) (linesOf c .y) (h .control) (h .chopped))
+    ap (λ (y : Line). halvesAt (weightOf (c .weight)) c (record { x = linesOf c .x; y = y }))
+    (same-mended u v (c .p0 .y) (c .p1 .y) (c .p2 .y) (linesOf c .y) (h .control) (h .chopped))

@@ -1,4 +1,6 @@
--- A chop by a rule whose test is the exact one keeps order, once for both directions and either axis: from a conic that runs one way it makes two that run the same way. The formulas of the chop don't enter: what is not in order is moved. Assumes nothing.
+-- A chop by a rule whose test is the exact one keeps order along an axis that the rule puts in order, once for both directions:
+-- from a conic that runs one way it makes two that run the same way. The formulas of the chop don't enter: what is not in
+-- order is moved. Assumes nothing.
 use mathlib.Core.Path.{_≡_, refl, subst, subst⁻¹, _∙_}
 use mathlib.Core.Logic.{_⊎_, inl, inr, ⊎-elim}
 use mathlib.Core.Bool.{Bool, true, false, cond, _&&_}
@@ -101,7 +103,8 @@ module _ (W : Way) where
   nearer-within a m c p q h = by-test (Within a c) (lt (absOf (m ⊖ a)) (absOf (m ⊖ c))) a c (λ _. (W .self a p, h)) (h, W .self c q)
 
   -- a correction leaves what is within, and else takes a place that is
-  kept-within : (u : Rule) → ((a b c : Float) → test u a b c ≡ exactTest a b c) → (a x c y : Float) → R a c → Within a c y → Within a c (cond (test u a x c) x y)
+  kept-within : (u : Rule) → ((a b c : Float) → test u a b c ≡ exactTest a b c) → (a x c y : Float) → R a c → Within a c y
+      → Within a c (cond (test u a x c) x y)
   kept-within u exact a x c y h k = by-test (Within a c) (test u a x c) x y (λ t. within a x c (subst T (exact a x c) t) h) k
 
   -- both halves of an ordered line
@@ -118,7 +121,8 @@ module _ (W : Way) where
         record { first = fin-m; last = q; low = right .0; high = right .1 },
       )
 
-  halves-of : (k : Axis) (w : Float) (c : Conic) (l : Lines) → Run (along k (c .p0)) (on k l .left) (on k l .middle) → Run (on k l .middle) (on k l .right) (along k (c .p2))
+  halves-of : (k : Axis) (w : Float) (c : Conic) (l : Lines) → Run (along k (c .p0)) (on k l .left) (on k l .middle)
+      → Run (on k l .middle) (on k l .right) (along k (c .p2))
       → Runs k (halvesAt w c l .first) × Runs k (halvesAt w c l .second)
   unfolding halvesAt
   halves-of X w c l p q = (p, q)

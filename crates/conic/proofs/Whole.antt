@@ -45,6 +45,7 @@ pub whole-chop : (u : Rule) (d : Depth) (c : Conic) (l : Lines) → l ≡ plainL
     → (inOrder u (c .p0 .y) (c .p2 .y) (l .y) || not (test u (c .p0 .y) (c .p1 .y) (c .p2 .y))) ≡ true → halvesAt (d .weight) c l ≡ chopAt u d c
 unfolding chopAt linesAt
 whole-chop u d c l e w s =
-    let same : l ≡ linesAt (d .scale) c = lines-whole (plainLines (d .scale) c) (record { x = wideLine (d .scale) X c; y = wideLine (d .scale) Y c }) l e w in
+    let same : l ≡ linesAt (d .scale) c =
+    lines-whole (plainLines (d .scale) c) (record { x = wideLine (d .scale) X c; y = wideLine (d .scale) Y c }) l e w in
     let y = stay u (c .p0 .y) (c .p1 .y) (c .p2 .y) (l .y) s in
     rw (← same) (ap (λ (k : Line). halvesAt (d .weight) c (record { x = l .x; y = k })) (sym y))

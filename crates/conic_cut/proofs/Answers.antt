@@ -73,5 +73,6 @@ kept-order u n c l l₁ e exact low fits bridge = record {
 }
 
 -- the same of a lent source
-pub kept-order-from : (u : Rule) (n : ℕ) (c : Conic) (l l₁ src : List Float) → l₁ ≡ cutBuffer (chopBy u) n c (ltb (length src) 6) l → 6 ≤ length src → OrderKept u n c l l₁
+pub kept-order-from : (u : Rule) (n : ℕ) (c : Conic) (l l₁ src : List Float)
+    → l₁ ≡ cutBuffer (chopBy u) n c (ltb (length src) 6) l → 6 ≤ length src → OrderKept u n c l l₁
 kept-order-from u n c l l₁ src e h = kept-order u n c l l₁ (e ∙ ap (λ (b : Bool). cutBuffer (chopBy u) n c b l) (le-ltb (length src) 6 h))

@@ -42,12 +42,15 @@ room-there : (n : ℕ) → n ≤ ceiling → room n ≤ length zeros
 unfolding zeros
 room-there n h = omega (arith, pow-mono h)
 
-pub auto-cut : (c : Conic) (n : ℕ) → levelAnswer false c quarter32 ≡ L.Pow2 n → (cutAnswer n (length zeros) false ≡ autoAnswer c) × (cutBuffer (chopBy Product) n c false zeros ≡ autoPoints c)
+pub auto-cut : (c : Conic) (n : ℕ) → levelAnswer false c quarter32 ≡ L.Pow2 n
+    → (cutAnswer n (length zeros) false ≡ autoAnswer c) × (cutBuffer (chopBy Product) n c false zeros ≡ autoPoints c)
 unfolding autoAnswer autoPoints
 auto-cut c n e =
     let t = by-level (conicFinite c) (autoLevel c) n (sym (answer-is c) ∙ e) in
     let h = level-low c quarter32 in
-    rw (t .0, t .1) (sym (answer-cut (chopBy Product) (autoLevel c) c zeros h (room-there (autoLevel c) h)), buffer-cut (chopBy Product) (autoLevel c) c zeros h (room-there (autoLevel c) h))
+    let fits = room-there (autoLevel c) h in
+    rw (t .0, t .1)
+    (sym (answer-cut (chopBy Product) (autoLevel c) c zeros h fits), buffer-cut (chopBy Product) (autoLevel c) c zeros h fits)
 
 pub auto-refused : (c : Conic) (q : Refusal) → levelAnswer false c quarter32 ≡ L.Refused q → (Refused q ≡ autoAnswer c) × (zeros ≡ autoPoints c)
 unfolding autoAnswer autoPoints

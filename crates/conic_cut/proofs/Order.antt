@@ -1,4 +1,5 @@
--- Along an axis that a rule puts in order the points of a cut keep one direction: once for both directions, either axis and every level. Assumes nothing.
+-- Along an axis that a rule puts in order the points of a cut keep one direction, once for both directions, either axis
+-- and every level. Assumes nothing.
 use mathlib.Core.Path.{_≡_, refl, ap, _∙_, subst, subst⁻¹}
 use mathlib.Core.Logic.{inl, inr, ⊎-elim}
 use mathlib.Core.Bool.{Bool, true, false, cond}
@@ -39,7 +40,8 @@ last-is s p (q ∷ l) = last-is q p l
 cut-last : (f : Conic → Halves) → KeepsEnd f → (n : ℕ) (c : Conic) (s : Point) → lastOf s (cutPoints f n c) ≡ c .p2
 cut-last f end n c s = ap (lastOf s) (cut-split f end n c) ∙ last-is s (c .p2) (inner f n c)
 
-steps-append : (R : Float → Float → Bool) (k : Axis) (s : Point) (a b : List Point) → Steps R k (s ∷ a) → Steps R k (lastOf s a ∷ b) → Steps R k (s ∷ (a ++ b))
+steps-append : (R : Float → Float → Bool) (k : Axis) (s : Point) (a b : List Point) → Steps R k (s ∷ a)
+    → Steps R k (lastOf s a ∷ b) → Steps R k (s ∷ (a ++ b))
 unfolding Steps lastOf
 steps-append R k s [] b h j = j
 steps-append R k s (p ∷ a) b h j = (h .0, steps-append R k p a b (h .1) j)
@@ -88,11 +90,14 @@ module _ (k : Axis) (u : Rule) (o : PutsInOrder k u) (n : ℕ) (c : Conic) (g : 
 
   steps-of : (W : Way) → Runs W k c → Steps (W .rel) k (written (chopBy u) n c)
   unfolding written
-  steps-of W r = written-by (Steps (W .rel) k) (allFinite (plain (chopBy u) n c)) (plain (chopBy u) n c) (pinned n c) (λ _. plain-steps W r) (pins-steps W r)
+  steps-of W r =
+      written-by (Steps (W .rel) k) (allFinite (plain (chopBy u) n c)) (plain (chopBy u) n c) (pinned n c) (λ _. plain-steps W r) (pins-steps W r)
 
   one-way : OneWay k (written (chopBy u) n c)
   unfolding up-way down-way
-  one-way = ⊎-elim (λ h. inl (steps-of up-way (runs-of up-way h))) (λ h. inr (steps-of down-way (runs-of down-way h))) (up-way .seen (along k (c .p0)) (along k (c .p1)) (along k (c .p2)) (g .between))
+  one-way =
+      ⊎-elim (λ h. inl (steps-of up-way (runs-of up-way h))) (λ h. inr (steps-of down-way (runs-of down-way h)))
+      (up-way .seen (along k (c .p0)) (along k (c .p1)) (along k (c .p2)) (g .between))
 
 -- ---- what passes the crate's finite test is finite in each coordinate
 coordinates : (p : Point) → T (pointFinite p) → Finite p

@@ -140,7 +140,8 @@ pub cut-split : (f : Conic → Halves) → KeepsEnd f → (n : ℕ) (c : Conic) 
 unfolding cutPoints inner
 cut-split f end zero c = refl
 cut-split f end (suc n) c =
-    ap (λ (l : List Point). cutPoints f n (f c .first) ++ l) (cut-split f end n (f c .second) ∙ ap (λ (p : Point). inner f n (f c .second) ++ (p ∷ [])) (end c))
+    ap (λ (l : List Point). cutPoints f n (f c .first) ++ l)
+    (cut-split f end n (f c .second) ∙ ap (λ (p : Point). inner f n (f c .second) ++ (p ∷ [])) (end c))
     ∙ sym (append-assoc (cutPoints f n (f c .first)) (inner f n (f c .second)) (c .p2 ∷ []))
 
 -- ---- the whole cut: l before, l₁ with the first point, l₂ with all of them
@@ -186,21 +187,25 @@ of-ends true true q h = h
 of-ends true false q h = refl
 of-ends false a q h = refl
 
-pub ends-pinned : (f : Conic → Halves) → KeepsEnd f → (n : ℕ) (c : Conic) → (pointFinite (c .p0) && pointFinite (c .p2)) ≡ false → pinned n c ≡ written f n c
+pub ends-pinned : (f : Conic → Halves) → KeepsEnd f → (n : ℕ) (c : Conic)
+    → (pointFinite (c .p0) && pointFinite (c .p2)) ≡ false → pinned n c ≡ written f n c
 unfolding written allFinite
 ends-pinned f end n c h =
-    let last : allFinite (cutPoints f n c) ≡ (allFinite (inner f n c) && pointFinite (c .p2)) = ap allFinite (cut-split f end n c) ∙ all-append (inner f n c) (c .p2) in
+    let last : allFinite (cutPoints f n c) ≡ (allFinite (inner f n c) && pointFinite (c .p2)) =
+    ap allFinite (cut-split f end n c) ∙ all-append (inner f n c) (c .p2) in
     rw (last, of-ends (pointFinite (c .p0)) (allFinite (inner f n c)) (pointFinite (c .p2)) h) refl
 
 -- c's start, its middle n times, and its end, one after another
 pub stored-pins : (n : ℕ) (c : Conic) (l l₁ l₂ l₃ : List Float) (r₁ : ℕ) → (r₁ ≡ 0 + 2) × (l₁ ≡ sets l 0 (flat (c .p0 ∷ [])))
-    → l₂ ≡ sets l₁ r₁ (flat (replicate (2 * 2 ^ n - 1) (c .p1))) → l₃ ≡ sets l₂ (r₁ + 2 * (2 * 2 ^ n - 1)) (flat (c .p2 ∷ [])) → l₃ ≡ sets l 0 (flat (pinned n c))
+    → l₂ ≡ sets l₁ r₁ (flat (replicate (2 * 2 ^ n - 1) (c .p1))) → l₃ ≡ sets l₂ (r₁ + 2 * (2 * 2 ^ n - 1)) (flat (c .p2 ∷ []))
+    → l₃ ≡ sets l 0 (flat (pinned n c))
 unfolding pinned flat
 stored-pins n c l l₁ l₂ l₃ r₁ put e g =
     let k = 2 * 2 ^ n - 1 in
     let pins = flat (replicate k (c .p1)) in
     let long = flat-length (replicate k (c .p1)) in
     let many = length-replicate k (c .p1) in
-    g ∙ ap (λ (z : List Float). sets z (r₁ + 2 * k) (flat (c .p2 ∷ []))) (e ∙ ap (λ (z : List Float). sets z r₁ pins) (put .1) ∙ sets-then (flat (c .p0 ∷ [])) pins l 0 r₁ (put .0))
+    g ∙ ap (λ (z : List Float). sets z (r₁ + 2 * k) (flat (c .p2 ∷ [])))
+    (e ∙ ap (λ (z : List Float). sets z r₁ pins) (put .1) ∙ sets-then (flat (c .p0 ∷ [])) pins l 0 r₁ (put .0))
     ∙ sets-then (flat (c .p0 ∷ []) ++ pins) (flat (c .p2 ∷ [])) l 0 (r₁ + 2 * k) (omega (arith, put .0, long, many))
     ∙ ap (λ (q : List Float). sets l 0 (c .p0 .x ∷ c .p0 .y ∷ q)) (sym (flat-append (replicate k (c .p1)) (c .p2 ∷ [])))

@@ -64,8 +64,10 @@ pub fn chop_into_quads_pow2_from(
     weight: f32,
     level: u32,
 ) -> Cut
-    ensures { λ r. ⌜ CutInto (chopBy rule) level (conicOf (now (src .entry)) weight) (ltb (length (now (src .entry))) 6) (now (out .entry)) r (now (out .exit)) ⌝ }
-    ensures order { λ _. ⌜ (6 ≤ length (now (src .entry)) → OrderKept rule level (conicOf (now (src .entry)) weight) (now (out .entry)) (now (out .exit))) ⌝ }
+    ensures { λ r. ⌜ CutInto (chopBy rule) level (conicOf (now (src .entry)) weight) (ltb (length (now (src .entry))) 6)
+        (now (out .entry)) r (now (out .exit)) ⌝ }
+    ensures order { λ _. ⌜ (6 ≤ length (now (src .entry))
+        → OrderKept rule level (conicOf (now (src .entry)) weight) (now (out .entry)) (now (out .exit))) ⌝ }
 {
     if level > Conic::MAX_CONIC_TO_QUAD_POW2 {
         return Cut::Refused(Refusal::LevelTooHigh);

@@ -33,7 +33,8 @@ returns-2 : tie.Need-returns-2
 returns-2 c =
     let a = c .before .before .before .before .args in
     let h : length (a .out .now) < room (a .level) = omega (arith, c .before .quads .ensures, c .if2 .taken) in
-    let w = too-short (chopBy (a .rule)) (a .level) (a .c) false (a .out .now) (c .before .before .if1 .left) (rw (lt-ltb (length (a .out .now)) (room (a .level)) h)) in
+    let w = too-short (chopBy (a .rule)) (a .level) (a .c) false (a .out .now) (c .before .before .if1 .left)
+    (rw (lt-ltb (length (a .out .now)) (room (a .level)) h)) in
     (w, kept-order (a .rule) (a .level) (a .c) (a .out .now) (a .out .now) (w .buffer))
 
 store-requires : tie.Need-store-requires
@@ -49,7 +50,8 @@ returns-3 c =
     let low = c .before .before .before .before .before .before .if1 .left in
     let fits : room (a .level) ≤ length (a .out .now) = omega (arith, q .ensures, c .before .before .before .before .if2 .left) in
     let done = c .before .before .store .ensures ∙ stored-cut (chopBy (a .rule)) (a .level) (a .c) (a .out .now) low fits in
-    (cut-into (ap Quads (q .ensures) ∙ answer-cut (chopBy (a .rule)) (a .level) (a .c) (a .out .now) low fits) done, kept-order (a .rule) (a .level) (a .c) (a .out .now) (c .before .before .store .last .0) done)
+    let many = ap Quads (q .ensures) ∙ answer-cut (chopBy (a .rule)) (a .level) (a .c) (a .out .now) low fits in
+    (cut-into many done, kept-order (a .rule) (a .level) (a .c) (a .out .now) (c .before .before .store .last .0) done)
 
 pub chop-into-quads-pow2-spec : {M : Type 1} → statement M
 chop-into-quads-pow2-spec =

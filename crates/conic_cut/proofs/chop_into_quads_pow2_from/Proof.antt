@@ -36,19 +36,29 @@ same-length c = search needs
 returns-2 : tie.Need-returns-2
 returns-2 c =
     let a = c .before .before .before .before .before .before .before .before .before .before .before .args in
-    let read = c .before .before .before .before .before .before .before .from-points in
-    let told = was-made (a .src .now) (a .weight) (c .before .before .before .before .before .c .given .0 .0) (sym (read .ensures .answer) ∙ c .before .before .before .before .before .c .given .1) in
-    let done = c .before .before .chop-into-quads-pow2 .ensures .0 in
-    let answer = done .answer in
-    let buffer = done .buffer in
-    (cut-into (rw (told .0) answer) (rw (told .0, ← told .1) buffer), kept-order-from (a .rule) (a .level) (conicOf (a .src .now) (a .weight)) (a .out .now) (c .before .before .chop-into-quads-pow2 .last .0) (a .src .now) (rw (told .0, ← told .1) buffer))
+    let read = c .before .before .before .before .before .before .before .from-points .ensures .answer in
+    let known = c .before .before .before .before .before .c .given in
+    let told = was-made (a .src .now) (a .weight) (known .0 .0) (sym read ∙ known .1) in
+    let cut = c .before .before .chop-into-quads-pow2 in
+    let answer = cut .ensures .0 .answer in
+    let buffer = cut .ensures .0 .buffer in
+    let of = conicOf (a .src .now) (a .weight) in (
+      cut-into (rw (told .0) answer) (rw (told .0, ← told .1) buffer),
+      kept-order-from (a .rule) (a .level) of (a .out .now) (cut .last .0) (a .src .now) (rw (told .0, ← told .1) buffer),
+    )
 
 returns-3 : tie.Need-returns-3
 returns-3 c =
     let a = c .before .before .before .before .before .before .before .args in
-    let told = was-refused (a .src .now) (a .weight) (c .before .r .given .0 .0) (sym (c .before .before .before .from-points .ensures .answer) ∙ c .before .r .given .1) in
-    let short = too-short (chopBy (a .rule)) (a .level) (conicOf (a .src .now) (a .weight)) (ltb (length (a .src .now)) 6) (a .out .now) (c .before .before .before .before .if1 .left) (rw (told .0, or-true)) in
-    (cut-into (ap Refused (told .1) ∙ short .answer) (short .buffer), kept-order-from (a .rule) (a .level) (conicOf (a .src .now) (a .weight)) (a .out .now) (a .out .now) (a .src .now) (short .buffer))
+    let read = c .before .before .before .from-points .ensures .answer in
+    let known = c .before .r .given in
+    let told = was-refused (a .src .now) (a .weight) (known .0 .0) (sym read ∙ known .1) in
+    let of = conicOf (a .src .now) (a .weight) in
+    let low = c .before .before .before .before .if1 .left in
+    let short = too-short (chopBy (a .rule)) (a .level) of (ltb (length (a .src .now)) 6) (a .out .now) low (rw (told .0, or-true)) in (
+      cut-into (ap Refused (told .1) ∙ short .answer) (short .buffer),
+      kept-order-from (a .rule) (a .level) of (a .out .now) (a .out .now) (a .src .now) (short .buffer),
+    )
 
 pub chop-into-quads-pow2-from-spec : {M : Type 1} → statement M
 chop-into-quads-pow2-from-spec =

@@ -20,14 +20,21 @@ is-finite-requires c κs = search needs
 
 returns-2 : tie.Need-returns-2
 unfolding levelAnswer
-returns-2 c = chosen (rw (← c .before .before .before .is-bad .ensures, c .before .before .if1 .left, ← c .before .is-finite .ensures, not-true (c .before .is-finite .result) (c .if2 .taken)))
+returns-2 c =
+    let bad = c .before .before .before .is-bad in
+    let whole = c .before .is-finite in
+    chosen (rw (← bad .ensures, c .before .before .if1 .left, ← whole .ensures, not-true (whole .result) (c .if2 .taken)))
 
 level-requires : tie.Need-level-requires
 level-requires c κs = search needs
 
 returns-3 : tie.Need-returns-3
 unfolding levelAnswer
-returns-3 c = chosen (rw (← c .before .before .before .before .is-bad .ensures, c .before .before .before .if1 .left, ← c .before .before .is-finite .ensures, not-false (c .before .before .is-finite .result) (c .before .if2 .left)) (ap Pow2 (c .level .ensures)))
+returns-3 c =
+    let bad = c .before .before .before .before .is-bad in
+    let whole = c .before .before .is-finite in
+    let good = not-false (whole .result) (c .before .if2 .left) in
+    chosen (rw (← bad .ensures, c .before .before .before .if1 .left, ← whole .ensures, good) (ap Pow2 (c .level .ensures)))
 
 pub compute-quad-pow2-spec : {M : Type 1} → statement M
 compute-quad-pow2-spec =

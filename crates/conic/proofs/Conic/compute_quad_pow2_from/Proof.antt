@@ -29,7 +29,9 @@ enum-known-r c = search needs
 returns-2 : tie.Need-returns-2
 returns-2 c =
     let s = c .before .before .before .before .before .before .before .before .args in
-    let told = was-made (s .src .now) (s .weight) (c .before .before .c .given .0 .0) (sym (c .before .before .before .before .from-points .ensures .answer) ∙ c .before .before .c .given .1) in
+    let read = c .before .before .before .before .from-points .ensures .answer in
+    let known = c .before .before .c .given in
+    let told = was-made (s .src .now) (s .weight) (known .0 .0) (sym read ∙ known .1) in
     let done = c .compute-quad-pow2 .ensures .answer in
     chosen (cc)
 
@@ -37,7 +39,9 @@ returns-3 : tie.Need-returns-3
 unfolding levelAnswer
 returns-3 c =
     let s = c .before .before .before .before .before .before .before .args in
-    let told = was-refused (s .src .now) (s .weight) (c .before .r .given .0 .0) (sym (c .before .before .before .from-points .ensures .answer) ∙ c .before .r .given .1) in
+    let read = c .before .before .before .from-points .ensures .answer in
+    let known = c .before .r .given in
+    let told = was-refused (s .src .now) (s .weight) (known .0 .0) (sym read ∙ known .1) in
     chosen (rw (told .0, told .1, ← c .before .before .before .before .before .is-bad .ensures, c .before .before .before .before .if1 .left))
 
 pub compute-quad-pow2-from-spec : {M : Type 1} → statement M

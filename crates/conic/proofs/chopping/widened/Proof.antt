@@ -21,7 +21,10 @@ narrow-requires c κs = search needs
 
 returns : tie.Need-returns
 unfolding wideMiddle
-returns c = rw (c .narrow .ensures, c .before .widen4 .ensures, c .before .before .widen3 .ensures, c .before .before .before .widen2 .ensures, c .before .before .before .before .widen .ensures)
+returns c =
+    let first = c .before .before .before .before .widen in
+    let second = c .before .before .before .widen2 in
+    rw (c .narrow .ensures, c .before .widen4 .ensures, c .before .before .widen3 .ensures, second .ensures, first .ensures)
 
 pub widened-spec : {M : Type 1} → statement M
 widened-spec =

@@ -19,7 +19,8 @@ unfolding quarteringsOf
 none n e t h = rw h
 
 -- one step more, of n at most of which p are done
-beyond : (n p : ℕ) (e t : Float) → p < n → le e t ≡ false → quarteringsOf (n - p) e t ≡ suc (quarteringsOf (n - (p + 1)) (e ⊗ quarter32) t)
+beyond : (n p : ℕ) (e t : Float) → p < n → le e t ≡ false
+    → quarteringsOf (n - p) e t ≡ suc (quarteringsOf (n - (p + 1)) (e ⊗ quarter32) t)
 unfolding quarteringsOf
 beyond n p e t h f = let k : n - p ≡ suc (n - (p + 1)) = omega arith in rw (k, f)
 
@@ -46,7 +47,9 @@ loop-less c = omega arith
 loop-again : tie.Need-loop-again Inv-loop μ-loop
 loop-again c =
     let at-loop = c .before .before .loop in
-    (omega arith, omega (arith, at-loop .inv .1, beyond ceiling (at-loop .pow2) (at-loop .left) (c .before .before .before .args .tolerance) (c .before .loop-test .taken) (c .if1 .left)))
+    let t = c .before .before .before .args .tolerance in
+    let more = beyond ceiling (at-loop .pow2) (at-loop .left) t (c .before .loop-test .taken) (c .if1 .left) in
+    (omega arith, omega (arith, at-loop .inv .1, more))
 
 returns-2 : tie.Need-returns-2 Inv-loop μ-loop
 returns-2 c =

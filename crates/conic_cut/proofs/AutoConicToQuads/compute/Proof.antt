@@ -30,7 +30,8 @@ returns c =
     let new = c .before .before .before .before .before .before .before .new in
     let known = c .before .before .before .before .level .given in
     let done = c .before .chop-into-quads-pow2 .ensures .0 in
-    let told = auto-cut (new .result) (known .0 .0) (sym (c .before .before .before .before .before .before .compute-quad-pow2 .ensures .answer) ∙ known .1) in
+    let chosen = c .before .before .before .before .before .before .compute-quad-pow2 .ensures .answer in
+    let told = auto-cut (new .result) (known .0 .0) (sym chosen ∙ known .1) in
     computed (done .answer ∙ told .0 ∙ ap autoAnswer (new .ensures)) (done .buffer ∙ told .1 ∙ ap autoPoints (new .ensures))
 
 returns-2 : tie.Need-returns-2

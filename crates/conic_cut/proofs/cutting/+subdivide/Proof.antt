@@ -1,4 +1,5 @@
--- `subdivide` meets its contract: the level falls at each call of itself, and what a store, or two cuts, leave is what `Stores` says. Assumes nothing.
+-- `subdivide` meets its contract: the level falls at each call of itself, and `Stores` says what one store, or two cuts, leave.
+-- Assumes nothing.
 use Prim.Native.Nat.{ℕ, _-_, _<_}
 use mathlib.Core.Path.{_∙_}
 use native.Mathlib.Nat.{pos-of-ne-zero}
@@ -45,7 +46,8 @@ module _ (t : ℕ) where
   returns c =
       let a = c .before .before .before .before .before .before .args in
       let stored = c .before .before .put-quad in
-      stored-zero (chopBy (a .rule)) (a .level) (a .c) (a .out .now) (stored .last .0) (a .at) (stored .result) (c .before .before .before .before .if1 .taken) (stored .ensures)
+      stored-zero (chopBy (a .rule)) (a .level) (a .c) (a .out .now) (stored .last .0) (a .at) (stored .result)
+      (c .before .before .before .before .if1 .taken) (stored .ensures)
 
   sub-less : subdivide-lts.Need-sub-less (calls t) (subdivide-at t) subdivide.Post
   sub-less c = pos-of-ne-zero (c .if1 .left)

@@ -54,7 +54,8 @@ loop-again c =
     let rest = allFinite (pointsOf (drop (at-loop .i + 2) s)) in (
       omega arith,
       and-assoc (at-loop .ok) (c .is-finite .result) rest
-          ∙ ap (λ (b : Bool). at-loop .ok && b) (ap (λ (b : Bool). b && rest) (c .is-finite .ensures) ∙ sym (all-more s (at-loop .i) (c .before .before .before .loop-test .taken)))
+          ∙ ap (λ (b : Bool). at-loop .ok && b)
+          (ap (λ (b : Bool). b && rest) (c .is-finite .ensures) ∙ sym (all-more s (at-loop .i) (c .before .before .before .loop-test .taken)))
           ∙ at-loop .inv .1,
     )
 

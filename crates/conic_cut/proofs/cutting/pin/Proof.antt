@@ -40,7 +40,8 @@ loop-again c =
       omega arith,
       put .kept .0 ∙ at-loop .inv .2,
       ap (λ (r : ℕ). sets (put .last .0) r (flat (replicate (args .n - (at-loop .i + 1)) (args .p)))) (put .ensures .0)
-          ∙ pin-more (args .p) (args .n) (at-loop .i) (at-loop .next) (at-loop .out) (put .last .0) (c .before .before .before .before .loop-test .taken) (put .ensures .1)
+          ∙ pin-more (args .p) (args .n) (at-loop .i) (at-loop .next) (at-loop .out) (put .last .0)
+          (c .before .before .before .before .loop-test .taken) (put .ensures .1)
           ∙ at-loop .inv .3,
     )
 

@@ -28,7 +28,8 @@ returns c =
     let p = flat (a .c .p1 ∷ []) in
     let q = flat (a .c .p2 ∷ []) in (
       omega (arith, first .ensures .0, second .ensures .0),
-      second .ensures .1 ∙ ap (λ (k : List Float). sets k (first .result) q) (first .ensures .1) ∙ sets-then p q (a .out .now) (a .at) (first .result) (first .ensures .0),
+      second .ensures .1 ∙ ap (λ (k : List Float). sets k (first .result) q) (first .ensures .1)
+          ∙ sets-then p q (a .out .now) (a .at) (first .result) (first .ensures .0),
     )
 
 pub put-quad-spec : {M : Type 1} → statement M

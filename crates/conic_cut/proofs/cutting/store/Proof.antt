@@ -35,8 +35,11 @@ same-length-2 c = search needs
 returns-2 : tie.Need-returns-2
 returns-2 c =
     let a = c .before .before .before .before .before .before .before .before .before .before .args in
-    let bad = rw (c .before .before .before .before .before .before .is-finite .ensures, c .before .before .before .before .before .is-finite2 .ensures) at (c .before .before .before .before .if1 .left) in
-    c .before .before .store-pinned .ensures ∙ ap (λ (ps : List Point). sets (a .out .now) 0 (flat ps)) (ends-pinned (chopBy (a .rule)) (joined (a .rule) .end) (a .level) (a .c) bad)
+    let start = c .before .before .before .before .before .before .is-finite .ensures in
+    let end = c .before .before .before .before .before .is-finite2 .ensures in
+    let bad = rw (start, end) at (c .before .before .before .before .if1 .left) in
+    let pins = ends-pinned (chopBy (a .rule)) (joined (a .rule) .end) (a .level) (a .c) bad in
+    c .before .before .store-pinned .ensures ∙ ap (λ (ps : List Point). sets (a .out .now) 0 (flat ps)) pins
 
 pub store-spec : {M : Type 1} → statement M
 store-spec =

@@ -27,7 +27,8 @@ subdivide-requires c κs =
     let made = c .before .before .before .before .before .before .ladder in
     let empty = replicate (2 * deepest) zero32 in
     let held = rungs-hold (s .args .level) empty (s .args .c .weight) (omega (arith, s .pre .1, length-replicate (2 * deepest) zero32)) in
-    (omega (arith, s .pre .0, put .ensures .0, put .kept .0), (s .pre .1, subst⁻¹ (λ (l : List Float). Rungs l (s .args .level) (s .args .c .weight)) (made .ensures) held))
+    let there = subst⁻¹ (λ (l : List Float). Rungs l (s .args .level) (s .args .c .weight)) (made .ensures) held in
+    (omega (arith, s .pre .0, put .ensures .0, put .kept .0), (s .pre .1, there))
 
 sub-all-finite : tie.Need-sub-all-finite
 sub-all-finite c = search needs
@@ -62,11 +63,12 @@ same-length-2 c = search needs
 
 returns-2 : tie.Need-returns-2
 returns-2 c =
-    let s = c .before .before .before .before .before .before .before .before .before .before .before .before .before .before .before .before .before .before .before .before in
+    let tested = c .before .before .before .before .before in
+    let s = tested .before .before .before .before .before .before .before .before .before .before .before .before .before .before .before in
     let a = s .args in
-    let put = c .before .before .before .before .before .before .before .before .before .before .before .before .before .before .before .put in
-    let cut = c .before .before .before .before .before .before .before .before .before .before .subdivide in
-    let test = c .before .before .before .before .before .all-finite in
+    let put = tested .before .before .before .before .before .before .before .before .before .before .put in
+    let cut = tested .before .before .before .before .before .subdivide in
+    let test = tested .all-finite in
     let pin = c .before .before .store-pinned in
     stored-pinned (chopBy (a .rule)) (a .level) (a .c) (a .out .now) (put .last .0) (cut .last .0) (put .result) (cut .result)
     (put .ensures) (cut .ensures) (s .pre .0) (pin .last .0) (test .result) (test .ensures) (c .before .before .before .before .if1 .left) (pin .ensures)

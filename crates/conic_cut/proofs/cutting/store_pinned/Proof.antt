@@ -31,7 +31,8 @@ put-requires-2 : tie.Need-put-requires-2
 put-requires-2 c κs =
     let s = c .before .before .before .before .before .before .before .before .before .before .before in
     let put = c .before .before .before .before .before .before .before .put in
-    omega (arith, s .pre .0, c .before .before .before .before .before .before .before .before .before .quads .ensures, pow-pos (s .args .level), put .ensures .0, put .kept .0, c .before .before .before .pin .kept .0)
+    let many = c .before .before .before .before .before .before .before .before .before .quads .ensures in
+    omega (arith, s .pre .0, many, pow-pos (s .args .level), put .ensures .0, put .kept .0, c .before .before .before .pin .kept .0)
 
 same-length : tie.Need-same-length
 same-length c = search needs
@@ -43,7 +44,8 @@ returns c =
     let put = c .before .before .before .before .before .before .before .before .before .before .put in
     let pin = c .before .before .before .before .before .before .pin in
     let last = c .before .before .put2 in
-    stored-pins (a .level) (a .c) (a .out .now) (put .last .0) (pin .last .0) (last .last .0) (put .result) (put .ensures) (rw many at (pin .ensures)) (rw many at (last .ensures .1))
+    stored-pins (a .level) (a .c) (a .out .now) (put .last .0) (pin .last .0) (last .last .0) (put .result)
+    (put .ensures) (rw many at (pin .ensures)) (rw many at (last .ensures .1))
 
 pub store-pinned-spec : {M : Type 1} → statement M
 store-pinned-spec =
