@@ -75,3 +75,6 @@ chopBuffer need room t src dst new = chopPick need room t src dst dst dst (sets 
 -- a store of the points `new` over the first of `dst`
 abbrev pub storePick : {A : Type 0} → List Float → List Float → A → A → A
 storePick dst new = shortPick (length new) dst
+
+abbrev pub storeBuffer : List Float → List Float → List Float
+storeBuffer dst new = storePick dst new dst (sets dst 0 new)

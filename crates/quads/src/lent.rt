@@ -1,13 +1,12 @@
 // Lent numbers: x, then y, of each point.
 ghost use mathlib.Core.Path.{_≡_};
-ghost use lib.Seq.{sets};
-ghost use Rattle.quads.specs.Answers.{numberOfChop, storePick};
+ghost use Rattle.quads.specs.Answers.{numberOfChop, storePick, storeBuffer};
 use super::Chopped;
 
 // Stores `new`, the points of a chop, over the first numbers of `dst`, if there is room.
 pub fn store(dst: &mut [f32], new: &[f32]) -> Chopped
     ensures { λ r. ⌜ r ≡ storePick (now (dst .entry)) (now (new .entry)) Chopped.BufferTooShort Chopped.Done ⌝ }
-    ensures buffer { λ _. ⌜ now (dst .exit) ≡ storePick (now (dst .entry)) (now (new .entry)) (now (dst .entry)) (sets (now (dst .entry)) 0 (now (new .entry))) ⌝ }
+    ensures buffer { λ _. ⌜ now (dst .exit) ≡ storeBuffer (now (dst .entry)) (now (new .entry)) ⌝ }
     ensures number { λ r. ⌜ numberOfChop r ≡ storePick (now (dst .entry)) (now (new .entry)) 2 0 ⌝ }
 {
     if dst.len() < new.len() {
