@@ -1,2 +1,4 @@
-pub mod Number
+pub mod Decimal
+pub mod Kinds
 pub mod Reading
+pub mod Words

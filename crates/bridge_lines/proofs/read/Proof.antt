@@ -1,77 +1,53 @@
--- `read` meets its contract: what is left of the line leads from the state at hand to where the whole line leads from the start. Assumes nothing.
-use Prim.Native.Nat.{_≤_, _<_, _-_}
+-- `read` meets its contract: what stands before the first `#` is a line without its comment. Assumes nothing.
 use mathlib.Core.Path.{_≡_, ap, _∙_}
-use native.Mathlib.Numerals.{add-one}
-use native.Mathlib.Omega.{arith}
-use lib.ListN.{length, drop}
-use lib.Seq.{drop-cons, drop-length}
+use mathlib.Core.List.{List}
+use Prim.Native.Nat.{ℕ, _-_}
 use borrow.Author.Tests.{lt-ltb, le-ltb}
-use Rattle.bridge_lines.specs.Reading.{startOf, stepsOf, toldOf, readOf}
-use Rattle.bridge_lines.specs.declared.steps.State.{State}
+use lib.ListN.{take, drop}
+use Rattle.bridge_lines.specs.Kinds.{isOf}
+use Rattle.bridge_lines.specs.Reading.{lineOf, readOf}
+use Rattle.bridge_lines.specs.Words.{isHash, before, wordsOf}
+use Rattle.bridge_lines.specs.declared.scan.Kind.the-variants.{Hash}
+use Rattle.bridge_lines.proofs.Bytes.{part}
+use borrow.Author.Needs.{needs}
 use Rattle.bridge_lines.proofs.read.Statement.{statement}
 use Rattle.bridge_lines.proofs.read.Tie as tie
 
-abbrev Inv-loop : tie.InvT-loop
-Inv-loop line s₀ i₀ s i = (i ≤ length line) × (stepsOf s (drop i line) ≡ stepsOf startOf line)
-
-abbrev μ-loop : tie.MeasureT-loop
-μ-loop line s₀ i₀ s i = length line - i
-
-returns : tie.Need-returns Inv-loop μ-loop
+returns : tie.Need-returns
 unfolding readOf
 returns c = simp (lt-ltb _ _ (c .if1 .taken))
 
-start-requires : tie.Need-start-requires Inv-loop μ-loop
-start-requires c κs = tt
+first-requires : tie.Need-first-requires
+first-requires c κs = search needs
 
-loop-holds : tie.Need-loop-holds Inv-loop μ-loop
-unfolding stepsOf
-loop-holds c = (omega arith, ap (λ (s : State). stepsOf s (c .before .before .before .args .line .now)) (c .start .ensures))
+sub-line : tie.Need-sub-line
+sub-line c = search needs
 
-shared-slice-read-step : tie.Need-shared-slice-read-step Inv-loop μ-loop
-shared-slice-read-step c = omega arith
+part-line-start : tie.Need-part-line-start
+part-line-start c = search needs
 
-step-requires : tie.Need-step-requires Inv-loop μ-loop
-step-requires c κs = tt
+part-line-end : tie.Need-part-line-end
+part-line-end c = search needs
 
-add-i : tie.Need-add-i Inv-loop μ-loop
-add-i c = omega arith
+line-requires : tie.Need-line-requires
+line-requires c κs = search needs
 
-loop-less : tie.Need-loop-less Inv-loop μ-loop
-loop-less c = omega arith
-
-loop-again : tie.Need-loop-again Inv-loop μ-loop
-unfolding stepsOf
-loop-again c =
-    let h : c .before .before .before .loop .i < length (c .before .before .before .before .before .before .before .args .line .now) = omega arith in
-    (omega arith, rw (c .step .ensures, add-one) (rw (drop-cons (c .before .before .before .before .before .before .before .args .line .now) (c .before .before .before .loop .i) 0) at (c .before .before .before .loop .inv .1)))
-
-step-requires-2 : tie.Need-step-requires-2 Inv-loop μ-loop
-step-requires-2 c κs = tt
-
-told-requires : tie.Need-told-requires Inv-loop μ-loop
-told-requires c κs = tt
-
-returns-2 : tie.Need-returns-2 Inv-loop μ-loop
-unfolding stepsOf readOf
+returns-2 : tie.Need-returns-2
+unfolding isOf readOf
 returns-2 c =
-    let e : c .before .before .before .loop .i ≡ length (c .before .before .before .before .before .before .before .args .line .now) = omega arith in
-    rw (le-ltb _ _ (c .before .before .before .before .before .if1 .left), ← c .before .before .before .loop .inv .1, e, drop-length) (c .told .ensures ∙ ap toldOf (c .before .step2 .ensures))
+    let line : List ℕ = c .before .before .before .before .before .args .line .now in
+    let e : ℕ = c .before .before .first .result in
+    let p : take (e - 0) (drop 0 line) ≡ before isHash line = part (isOf Hash) line 0 e (c .before .before .first .ensures .1) in
+    rw (le-ltb _ _ (c .before .before .before .if1 .left)) (c .line .ensures ∙ ap (λ (l : List ℕ). lineOf (wordsOf l)) p)
 
 pub read-spec : {M : Type 1} → statement M
 read-spec =
     tie.close
     (tie.spec
-    Inv-loop
-    μ-loop
     returns
-    start-requires
-    loop-holds
-    shared-slice-read-step
-    step-requires
-    add-i
-    loop-less
-    loop-again
-    step-requires-2
-    told-requires
+    first-requires
+    sub-line
+    part-line-start
+    part-line-end
+    line-requires
     returns-2)

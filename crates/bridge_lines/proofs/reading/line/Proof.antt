@@ -1,0 +1,172 @@
+-- `reading::line` meets its contract: at each turn the words before are in range, and those left lead to what the line comes to. Assumes nothing.
+use mathlib.Core.Path.{_≡_, sym, ap, _∙_}
+use mathlib.Core.Bool.{true, false}
+use mathlib.Core.List.{List, [], _∷_}
+use Prim.Native.Nat.{ℕ, _+_, _-_, _≤_, _<_}
+use native.Mathlib.Omega.{arith}
+use borrow.Author.Count.{below-more}
+use borrow.Author.Tests.{not-true, not-false}
+use lib.ListN.{length, getD, drop}
+use Rattle.bridge_lines.specs.declared.Line.the-variants.{Good}
+use Rattle.bridge_lines.specs.Reading.{hasForm, inRange, judged, bridgeOf, lineOf}
+use Rattle.bridge_lines.specs.Words.{wordsOf}
+use Rattle.bridge_lines.proofs.Judging.{ends, goes, blank, begun, too-few, no-number, out-of-range, right, too-many, good}
+use Rattle.bridge_lines.proofs.reading.line.Statement.{statement}
+use Rattle.bridge_lines.proofs.reading.line.Tie as tie
+
+none : (j : ℕ) → j < 0 → ⊥
+none j h = omega arith
+
+some : {n : ℕ} → 0 < n → n ≡ 0 → ⊥
+some h e = omega arith
+
+abbrev Inv-loop : tie.InvT-loop
+Inv-loop text k₀ k =
+    (k ≤ 8)
+    × (((j : ℕ) → j < k → inRange (j + 1) (getD (wordsOf text) j []) ≡ true)
+    × (judged (k + 1) (drop k (wordsOf text)) (Good (bridgeOf (wordsOf text))) ≡ lineOf (wordsOf text)))
+
+abbrev μ-loop : tie.MeasureT-loop
+μ-loop text k₀ k = 8 - k
+
+word-requires : tie.Need-word-requires Inv-loop μ-loop
+word-requires c κs = tt
+
+returns : tie.Need-returns Inv-loop μ-loop
+returns c =
+    let text : List ℕ = c .before .before .before .args .text .now in
+    blank (wordsOf text) (ends text 0 (rw (c .before .word .ensures) at (c .if1 .taken)))
+
+loop-holds : tie.Need-loop-holds Inv-loop μ-loop
+loop-holds c =
+    let text : List ℕ = c .before .before .before .args .text .now in
+    (omega arith, ((λ j h. absurd (none j h)), begun (wordsOf text) (rw (c .before .word .ensures) at (c .if1 .left))))
+
+word-requires-2 : tie.Need-word-requires-2 Inv-loop μ-loop
+word-requires-2 c κs = tt
+
+add-t9 : tie.Need-add-t9 Inv-loop μ-loop
+add-t9 c = omega arith
+
+returns-2 : tie.Need-returns-2 Inv-loop μ-loop
+returns-2 c =
+    let text : List ℕ = c .before .before .before .before .before .before .before .args .text .now in
+    let k : ℕ = c .before .before .before .loop .k in
+    let w : c .before .word2 .result .now ≡ getD (wordsOf text) k [] = c .before .word2 .ensures in
+    let j : judged (k + 1) (drop k (wordsOf text)) (Good (bridgeOf (wordsOf text))) ≡ lineOf (wordsOf text) = c .before .before .before .loop .inv .1 .1 in
+    let h : k < 8 = omega arith in
+    too-few (wordsOf text) k j h (ends text k (rw w at (c .if2 .taken)))
+
+add-has-form : tie.Need-add-has-form Inv-loop μ-loop
+add-has-form c = omega arith
+
+has-form-requires : tie.Need-has-form-requires Inv-loop μ-loop
+has-form-requires c κs = tt
+
+add-t13 : tie.Need-add-t13 Inv-loop μ-loop
+add-t13 c = omega arith
+
+returns-3 : tie.Need-returns-3 Inv-loop μ-loop
+returns-3 c =
+    let text : List ℕ = c .before .before .before .before .before .before .before .before .before .args .text .now in
+    let k : ℕ = c .before .before .before .before .before .loop .k in
+    let w : c .before .before .before .word2 .result .now ≡ getD (wordsOf text) k [] = c .before .before .before .word2 .ensures in
+    let j : judged (k + 1) (drop k (wordsOf text)) (Good (bridgeOf (wordsOf text))) ≡ lineOf (wordsOf text) = c .before .before .before .before .before .loop .inv .1 .1 in
+    let h : k < 8 = omega arith in
+    let e : drop k (wordsOf text) ≡ getD (wordsOf text) k [] ∷ drop (k + 1) (wordsOf text) = goes (wordsOf text) k (rw w at (c .before .before .if2 .left)) in
+    let f : hasForm (k + 1) (getD (wordsOf text) k []) ≡ false =
+        rw (← w) (sym (c .before .has-form .ensures) ∙ not-true (c .before .has-form .result) (c .if3 .taken)) in
+    no-number (wordsOf text) k j h e f
+
+add-in-range : tie.Need-add-in-range Inv-loop μ-loop
+add-in-range c = omega arith
+
+in-range-requires : tie.Need-in-range-requires Inv-loop μ-loop
+in-range-requires c κs = tt
+
+add-t15 : tie.Need-add-t15 Inv-loop μ-loop
+add-t15 c = omega arith
+
+returns-4 : tie.Need-returns-4 Inv-loop μ-loop
+returns-4 c =
+    let text : List ℕ = c .before .before .before .before .before .before .before .before .before .before .before .args .text .now in
+    let k : ℕ = c .before .before .before .before .before .before .before .loop .k in
+    let w : c .before .before .before .before .before .word2 .result .now ≡ getD (wordsOf text) k [] = c .before .before .before .before .before .word2 .ensures in
+    let j : judged (k + 1) (drop k (wordsOf text)) (Good (bridgeOf (wordsOf text))) ≡ lineOf (wordsOf text) = c .before .before .before .before .before .before .before .loop .inv .1 .1 in
+    let h : k < 8 = omega arith in
+    let e : drop k (wordsOf text) ≡ getD (wordsOf text) k [] ∷ drop (k + 1) (wordsOf text) = goes (wordsOf text) k (rw w at (c .before .before .before .before .if2 .left)) in
+    let f : hasForm (k + 1) (getD (wordsOf text) k []) ≡ true =
+        rw (← w) (sym (c .before .before .before .has-form .ensures) ∙ not-false (c .before .before .before .has-form .result) (c .before .before .if3 .left)) in
+    let r : inRange (k + 1) (getD (wordsOf text) k []) ≡ false =
+        rw (← w) (sym (c .before .in-range .ensures) ∙ not-true (c .before .in-range .result) (c .if4 .taken)) in
+    out-of-range (wordsOf text) k j h e f r
+
+add-k : tie.Need-add-k Inv-loop μ-loop
+add-k c = omega arith
+
+loop-less : tie.Need-loop-less Inv-loop μ-loop
+loop-less c = omega arith
+
+loop-again : tie.Need-loop-again Inv-loop μ-loop
+loop-again c =
+    let text : List ℕ = c .before .before .before .before .before .before .before .before .before .before .before .args .text .now in
+    let k : ℕ = c .before .before .before .before .before .before .before .loop .k in
+    let w : c .before .before .before .before .before .word2 .result .now ≡ getD (wordsOf text) k [] = c .before .before .before .before .before .word2 .ensures in
+    let j : judged (k + 1) (drop k (wordsOf text)) (Good (bridgeOf (wordsOf text))) ≡ lineOf (wordsOf text) = c .before .before .before .before .before .before .before .loop .inv .1 .1 in
+    let h : k < 8 = omega arith in
+    let e : drop k (wordsOf text) ≡ getD (wordsOf text) k [] ∷ drop (k + 1) (wordsOf text) = goes (wordsOf text) k (rw w at (c .before .before .before .before .if2 .left)) in
+    let f : hasForm (k + 1) (getD (wordsOf text) k []) ≡ true =
+        rw (← w) (sym (c .before .before .before .has-form .ensures) ∙ not-false (c .before .before .before .has-form .result) (c .before .before .if3 .left)) in
+    let r : inRange (k + 1) (getD (wordsOf text) k []) ≡ true =
+        rw (← w) (sym (c .before .in-range .ensures) ∙ not-false (c .before .in-range .result) (c .if4 .left)) in
+    (omega arith, (below-more _ _ (c .before .before .before .before .before .before .before .loop .inv .1 .0) r, right (wordsOf text) k j h e f r))
+
+word-requires-3 : tie.Need-word-requires-3 Inv-loop μ-loop
+word-requires-3 c κs = tt
+
+returns-5 : tie.Need-returns-5 Inv-loop μ-loop
+returns-5 c =
+    let text : List ℕ = c .before .before .before .before .before .before .before .args .text .now in
+    let e : c .before .before .before .loop .k ≡ 8 = omega arith in
+    let n : 0 < length (getD (wordsOf text) 8 []) = rw (c .before .word3 .ensures) at (c .if5 .taken) in
+    too-many (wordsOf text) (rw e at (c .before .before .before .loop .inv .1 .1)) (goes (wordsOf text) 8 (λ z. some n z))
+
+bridge-requires : tie.Need-bridge-requires Inv-loop μ-loop
+bridge-requires c κs =
+    let e : c .before .before .before .loop .k ≡ 8 = omega arith in
+    rw e at (c .before .before .before .loop .inv .1 .0)
+
+returns-6 : tie.Need-returns-6 Inv-loop μ-loop
+returns-6 c =
+    let text : List ℕ = c .before .before .before .before .before .before .before .before .args .text .now in
+    let e : c .before .before .before .before .loop .k ≡ 8 = omega arith in
+    let n : length (getD (wordsOf text) 8 []) ≤ 0 = rw (c .before .before .word3 .ensures) at (c .before .if5 .left) in
+    ap Good (c .bridge .ensures) ∙ good (wordsOf text) (rw e at (c .before .before .before .before .loop .inv .1 .1)) (ends text 8 (omega arith))
+
+pub line-spec : {M : Type 1} → statement M
+line-spec =
+    tie.close
+    (tie.spec
+    Inv-loop
+    μ-loop
+    word-requires
+    returns
+    loop-holds
+    word-requires-2
+    add-t9
+    returns-2
+    add-has-form
+    has-form-requires
+    add-t13
+    returns-3
+    add-in-range
+    in-range-requires
+    add-t15
+    returns-4
+    add-k
+    loop-less
+    loop-again
+    word-requires-3
+    returns-5
+    bridge-requires
+    returns-6)

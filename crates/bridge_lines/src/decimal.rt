@@ -1,0 +1,113 @@
+// What a word comes to as a decimal number.
+ghost use mathlib.Core.Path.{_≡_};
+ghost use Prim.Native.Nat.{_≤_, _<_, _^_, min};
+ghost use lib.ListN.{length};
+ghost use Rattle.bridge_lines.specs.Decimal.{isNegative, unsigned, isWhole, decimals, isDecimal, sizeOf, sizeAfter, valueOf};
+ghost use mathlib.Core.List.{[], _∷_};
+use super::scan;
+use super::scan::Kind;
+
+pub fn is_negative(w: &[u8]) -> bool
+    ensures { λ r. ⌜ r ≡ isNegative (now (w .entry)) ⌝ }
+{
+    if w.len() == 0 {
+        return false;
+    }
+    w[0] == b'-'
+}
+
+// The word without its minus.
+pub fn without_sign(w: &[u8]) -> &[u8]
+    ensures { λ r. ⌜ now r ≡ unsigned (now (w .entry)) ⌝ }
+{
+    if w.len() == 0 {
+        return w;
+    }
+    if w[0] == b'-' {
+        return &w[1..];
+    }
+    w
+}
+
+// Whether w is digits alone, and at least one.
+pub fn is_whole(w: &[u8]) -> bool
+    ensures { λ r. ⌜ r ≡ isWhole (now (w .entry)) ⌝ }
+{
+    (0 < w.len()) & (scan::first(w, 0, Kind::NoDigit) == w.len())
+}
+
+// The bytes behind the point.
+pub fn past_point(w: &[u8]) -> &[u8]
+    ensures { λ r. ⌜ now r ≡ decimals (now (w .entry)) ⌝ }
+{
+    let at = scan::first(w, 0, Kind::Point);
+    if at < w.len() {
+        return &w[at + 1..];
+    }
+    &w[at..]
+}
+
+// Whether w is digits, or digits, a point and digits.
+pub fn is_decimal(w: &[u8]) -> bool
+    ensures { λ r. ⌜ r ≡ isDecimal (now (w .entry)) ⌝ }
+{
+    let end = scan::first(w, 0, Kind::Point);
+    is_whole(w) | (is_whole(&w[0..end]) & is_whole(past_point(w)))
+}
+
+// The number n with b behind it, where that is a digit; it is held at 10^9, which no place takes.
+fn with_digit(n: u32, b: u8) -> u32
+    requires { ⌜ n ≤ 1000000000 ⌝ }
+    ensures { λ r. ⌜ r ≡ min (sizeAfter n (b ∷ [])) 1000000000 ⌝ }
+{
+    if b < 48 {
+        return n;
+    }
+    if b > 57 {
+        return n;
+    }
+    if n < 100000000 {
+        10 * n + (b - 48) as u32
+    } else {
+        1000000000
+    }
+}
+
+// The number that the digits of w make, held at 10^9.
+pub fn size(w: &[u8]) -> u32
+    ensures { λ r. ⌜ r ≡ min (sizeOf (now (w .entry))) 1000000000 ⌝ }
+{
+    let mut n = 0;
+    let mut i = 0;
+    while i < w.len() {
+        n = with_digit(n, w[i]);
+        i += 1;
+    }
+    n
+}
+
+fn power(n: usize) -> u32
+    requires { ⌜ n ≤ 6 ⌝ }
+    ensures { λ r. ⌜ r ≡ 10 ^ n ⌝ }
+{
+    match n {
+        0 => 1,
+        1 => 10,
+        2 => 100,
+        3 => 1000,
+        4 => 10000,
+        5 => 100000,
+        _ => 1000000,
+    }
+}
+
+// The value of a word that is in range. Both numbers are floats exactly, so it is rounded once.
+pub fn value(w: &[u8]) -> f32
+    requires { ⌜ sizeOf (now w) < 1000000000 ⌝ ∗ ⌜ length (decimals (now w)) ≤ 6 ⌝ }
+    ensures { λ r. ⌜ r ≡ valueOf (now (w .entry)) ⌝ }
+{
+    let size = size(w);
+    let scale = power(past_point(w).len());
+    let q = std::num::nearest_u32_to_f32(size) / std::num::nearest_u32_to_f32(scale);
+    if is_negative(w) { -q } else { q }
+}

@@ -1,0 +1,109 @@
+// A line by its words.
+ghost use mathlib.Core.Path.{_≡_};
+ghost use mathlib.Core.Bool.{true};
+ghost use mathlib.Core.List.{[]};
+ghost use Prim.Native.Nat.{ℕ, _+_, _<_};
+ghost use lib.ListN.{getD};
+ghost use Rattle.bridge_lines.specs.Reading.{hasForm, limitOf, inRange, bridgeOf, lineOf};
+ghost use Rattle.bridge_lines.specs.Decimal.{valueOf};
+ghost use Rattle.bridge_lines.specs.Words.{wordsOf};
+use super::Bridge;
+use super::Fault;
+use super::Line;
+use super::decimal;
+use super::scan;
+use conic::Conic;
+use point::Point;
+
+// Whether w is a number of the kind that its place takes.
+fn has_form(place: u32, w: &[u8]) -> bool
+    ensures { λ r. ⌜ r ≡ hasForm place (now (w .entry)) ⌝ }
+{
+    if place < 7 {
+        return decimal::is_whole(decimal::without_sign(w));
+    }
+    if place < 8 {
+        return decimal::is_decimal(decimal::without_sign(w));
+    }
+    decimal::is_whole(w)
+}
+
+// The largest number at a place, read without its point.
+fn limit(place: u32) -> u32
+    ensures { λ r. ⌜ r ≡ limitOf place ⌝ }
+{
+    if place < 7 {
+        16777216
+    } else if place < 8 {
+        9999999
+    } else {
+        999999999
+    }
+}
+
+fn in_range(place: u32, w: &[u8]) -> bool
+    ensures { λ r. ⌜ r ≡ inRange place (now (w .entry)) ⌝ }
+{
+    (decimal::size(w) <= limit(place)) & (decimal::past_point(w).len() <= 6)
+}
+
+// The number at a place from 1 to 7.
+fn value(text: &[u8], k: u32) -> f32
+    requires { ⌜ inRange (k + 1) (getD (wordsOf (now text)) k []) ≡ true ⌝ }
+    ensures { λ r. ⌜ r ≡ valueOf (getD (wordsOf (now (text .entry))) k []) ⌝ }
+{
+    decimal::value(scan::word(text, k))
+}
+
+// The bridge of eight words that are in range.
+fn bridge(text: &[u8]) -> Bridge
+    requires { ⌜ ((k : ℕ) → k < 8 → inRange (k + 1) (getD (wordsOf (now text)) k []) ≡ true) ⌝ }
+    ensures { λ r. ⌜ r ≡ bridgeOf (wordsOf (now (text .entry))) ⌝ }
+{
+    let conic = Conic {
+        p0: Point {
+            x: value(text, 0),
+            y: value(text, 1),
+        },
+        p1: Point {
+            x: value(text, 2),
+            y: value(text, 3),
+        },
+        p2: Point {
+            x: value(text, 4),
+            y: value(text, 5),
+        },
+        weight: value(text, 6),
+    };
+    Bridge {
+        conic,
+        level: decimal::size(scan::word(text, 7)),
+    }
+}
+
+// What a line without its comment comes to.
+pub fn line(text: &[u8]) -> Line
+    ensures { λ r. ⌜ r ≡ lineOf (wordsOf (now (text .entry))) ⌝ }
+{
+    if scan::word(text, 0).len() == 0 {
+        return Line::Blank;
+    }
+    let mut k = 0;
+    while k < 8 {
+        let w = scan::word(text, k);
+        if w.len() == 0 {
+            return Line::Bad(k + 1, Fault::TooFew);
+        }
+        if !has_form(k + 1, w) {
+            return Line::Bad(k + 1, Fault::NoNumber);
+        }
+        if !in_range(k + 1, w) {
+            return Line::Bad(k + 1, Fault::OutOfRange);
+        }
+        k += 1;
+    }
+    if scan::word(text, 8).len() > 0 {
+        return Line::Bad(9, Fault::TooMany);
+    }
+    Line::Good(bridge(text))
+}
