@@ -2,6 +2,7 @@
 use bridge_lines::Bridge;
 use bridge_lines::Fault;
 use bridge_lines::Line;
+use conic::Conic;
 use conic::Refusal;
 use conic::Rule;
 use conic_cut::Cut;
@@ -46,6 +47,38 @@ fn points(out: &[f32; 66], count: usize) {
     }
 }
 
+// Whether the xs of the first `count` points go up and down.
+fn xs_turn(out: &[f32; 66], count: usize) -> bool {
+    let mut up = false;
+    let mut down = false;
+    let mut i = 0;
+    while i < 32 {
+        let here = out[2 * i];
+        let next = out[2 * i + 2];
+        let written = i + 1 < count;
+        up = up | (written & (here < next));
+        down = down | (written & (next < here));
+        i += 1;
+    }
+    up & down
+}
+
+// Writes the points of a cut, and before them what no promise keeps: the ys go one way only where the middle one is
+// not beyond the ends, and of the xs nothing is promised, so that the points themselves are looked at.
+fn written(line: u64, conic: Conic, out: &[f32; 66], count: usize) {
+    io::print_decimal(STDOUT_FILENO, count as u64);
+    text(b" points\n");
+    if !conic::between_exact(conic.p0.y, conic.p1.y, conic.p2.y) {
+        heading(line);
+        text(b"note: the ys may turn back, since the middle y is not between the end ys\n");
+    }
+    if xs_turn(out, count) {
+        heading(line);
+        text(b"note: the xs turn back\n");
+    }
+    points(out, count);
+}
+
 fn refused(why: Refusal) {
     text(b"refused ");
     io::print_decimal(STDOUT_FILENO, why.number() as u64);
@@ -53,15 +86,13 @@ fn refused(why: Refusal) {
 }
 
 // Cuts a bridge; level 4 has 33 points.
-fn cut(b: Bridge) {
+fn cut(line: u64, b: Bridge) {
     let mut out = [0.0f32; 66];
     let conic = b.conic;
     match conic_cut::chop_into_quads_pow2(&mut out, Rule::Exact, conic, b.level) {
         Cut::Quads(n) => {
             let count = if n < 17 { 2 * n + 1 } else { 33 };
-            io::print_decimal(STDOUT_FILENO, count as u64);
-            text(b" points\n");
-            points(&out, count);
+            written(line, conic, &out, count);
         }
         Cut::Refused(why) => refused(why),
     }
@@ -72,19 +103,28 @@ fn number(place: u32) {
     io::print_decimal(STDOUT_FILENO, place as u64);
 }
 
+// Writes what the number at a place is not.
+fn no_number(place: u32) {
+    if place < 7 {
+        text(b"no whole number from -16777216 to 16777216\n");
+    } else if place < 8 {
+        text(b"no number such as 2 or -0.75, with at most 7 digits, 6 of them behind the point\n");
+    } else {
+        text(b"no whole number from 0 to 999999999\n");
+    }
+}
+
 fn bad(place: u32, why: Fault) {
     match why {
         Fault::NoNumber => {
             number(place);
-            if place == 7 {
-                text(b" is no decimal number\n");
-            } else {
-                text(b" is no whole number\n");
-            }
+            text(b" is ");
+            no_number(place);
         }
         Fault::OutOfRange => {
             number(place);
-            text(b" is out of range\n");
+            text(b" is out of range: it is ");
+            no_number(place);
         }
         Fault::TooFew => {
             text(b"too few numbers: ");
@@ -102,7 +142,7 @@ pub fn show(number: u64, line: &[u8]) {
         Line::Blank => (),
         Line::Good(b) => {
             heading(number);
-            cut(b);
+            cut(number, b);
         }
         Line::Bad(place, why) => {
             heading(number);

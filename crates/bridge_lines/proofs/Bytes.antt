@@ -15,7 +15,7 @@ use Rattle.bridge_lines.specs.Decimal.{allDigits}
 
 module _ (p : ℕ → Bool) where
   taken-by : (t : Bool) (b : ℕ) (l : List ℕ) → p b ≡ t → take (length (before p l)) l ≡ before p l →
-    take (length (before p (b ∷ l))) (b ∷ l) ≡ before p (b ∷ l)
+      take (length (before p (b ∷ l))) (b ∷ l) ≡ before p (b ∷ l)
   unfolding before
   taken-by true b l e h = rw e
   taken-by false b l e h = rw e (ap (λ (x : List ℕ). b ∷ x) h)
@@ -26,7 +26,7 @@ module _ (p : ℕ → Bool) where
   taken (b ∷ l) = taken-by (p b) b l refl (taken l)
 
   dropped-by : (t : Bool) (b : ℕ) (l : List ℕ) → p b ≡ t → drop (length (before p l)) l ≡ from p l →
-    drop (length (before p (b ∷ l))) (b ∷ l) ≡ from p (b ∷ l)
+      drop (length (before p (b ∷ l))) (b ∷ l) ≡ from p (b ∷ l)
   unfolding before from
   dropped-by true b l e h = rw e
   dropped-by false b l e h = rw e h
@@ -37,7 +37,7 @@ module _ (p : ℕ → Bool) where
   dropped (b ∷ l) = dropped-by (p b) b l refl (dropped l)
 
   within-by : (t : Bool) (b : ℕ) (l : List ℕ) → p b ≡ t → length (before p l) ≤ length l →
-    length (before p (b ∷ l)) ≤ length (b ∷ l)
+      length (before p (b ∷ l)) ≤ length (b ∷ l)
   unfolding before
   within-by true b l e h = rw e (omega arith)
   within-by false b l e h = rw e (omega arith)
@@ -48,7 +48,7 @@ module _ (p : ℕ → Bool) where
   within (b ∷ l) = within-by (p b) b l refl (within l)
 
   sits-by : (t : Bool) (b : ℕ) (l : List ℕ) → p b ≡ t → length (before p (from p l)) ≡ 0 →
-    length (before p (from p (b ∷ l))) ≡ 0
+      length (before p (from p (b ∷ l))) ≡ 0
   unfolding before from
   sits-by true b l e h = rw (e, e)
   sits-by false b l e h = rw e h
@@ -66,7 +66,7 @@ module _ (p : ℕ → Bool) where
   stands l i h e = rw (drop-cons l i 0 h, e)
 
   pub passed : (l : List ℕ) (i : ℕ) → i < length l → p (getD l i 0) ≡ false →
-    length (before p (drop i l)) ≡ suc (length (before p (drop (suc i) l)))
+      length (before p (drop i l)) ≡ suc (length (before p (drop (suc i) l)))
   unfolding before
   passed l i h e = rw (drop-cons l i 0 h, e)
 
@@ -88,7 +88,7 @@ tail l i = take-all (length l - i) (drop i l) (omega (arith, length-drop i l))
 -- ---- digits alone
 
 digits-by : (t : Bool) (b : ℕ) (l : List ℕ) → isDigit b ≡ t → eqb (length (before (isOf NoDigit) l)) (length l) ≡ allDigits l →
-  eqb (length (before (isOf NoDigit) (b ∷ l))) (length (b ∷ l)) ≡ allDigits (b ∷ l)
+    eqb (length (before (isOf NoDigit) (b ∷ l))) (length (b ∷ l)) ≡ allDigits (b ∷ l)
 unfolding before isOf allDigits
 digits-by true b l e h = rw e (eqb·suc-suc (length (before (isOf NoDigit) l)) (length l) ∙ h)
 digits-by false b l e h = rw e (eqb·zero-suc (length l))

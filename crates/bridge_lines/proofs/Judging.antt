@@ -62,7 +62,7 @@ module _ (ws : List (List ℕ)) (k : ℕ) (known : judged (k + 1) (drop k ws) (G
         rw (t, f, r) at (rw e at known)
 
     pub right : hasForm (k + 1) (getD ws k []) ≡ true → inRange (k + 1) (getD ws k []) ≡ true →
-      judged (k + 1 + 1) (drop (k + 1) ws) (Good (bridgeOf ws)) ≡ lineOf ws
+        judged (k + 1 + 1) (drop (k + 1) ws) (Good (bridgeOf ws)) ≡ lineOf ws
     unfolding judged
     right f r =
         let t : ltb 8 (k + 1) ≡ false = le-ltb 8 (k + 1) (omega arith) in

@@ -62,7 +62,7 @@ both-by false t e = let z : _≡_ {A = ℕ} 0 1 = cc in absurd (no z)
 pub ranged : (place : ℕ) (w : List ℕ) → inRange place w ≡ true → (sizeOf w < 1000000000) × (length (decimals w) ≤ 6)
 ranged place w e =
     let b : (leb (sizeOf w) (limitOf place) ≡ true) × (leb (length (decimals w)) 6 ≡ true) =
-        both-by (leb (sizeOf w) (limitOf place)) (leb (length (decimals w)) 6) e in
-    ( lt-of-le-of-lt (leb-true (sizeOf w) (limitOf place) (b .0)) (limit-below place)
-    , leb-true (length (decimals w)) 6 (b .1)
+    both-by (leb (sizeOf w) (limitOf place)) (leb (length (decimals w)) 6) e in (
+      lt-of-le-of-lt (leb-true (sizeOf w) (limitOf place) (b .0)) (limit-below place),
+      leb-true (length (decimals w)) 6 (b .1),
     )

@@ -13,7 +13,7 @@ use Rattle.bridge_lines.proofs.Bytes.{sits, part, rest}
 use Rattle.bridge_lines.specs.declared.scan.Kind.the-variants.{Blank, NoBlank}
 
 skip-by : (t : Bool) (b : ℕ) (l : List ℕ) → isBlank b ≡ t → wordsOf (from (isOf NoBlank) l) ≡ wordsOf l →
-  wordsOf (from (isOf NoBlank) (b ∷ l)) ≡ wordsOf (b ∷ l)
+    wordsOf (from (isOf NoBlank) (b ∷ l)) ≡ wordsOf (b ∷ l)
 unfolding isOf from wordsAfter ahead
 skip-by true b l e h = rw e h
 skip-by false b l e h = rw (e, e)
@@ -25,8 +25,8 @@ skip [] = refl
 skip (b ∷ l) = skip-by (isBlank b) b l refl (skip l)
 
 run-by : (t : Bool) (b : ℕ) (l w : List ℕ) → isBlank b ≡ t →
-  ((v : List ℕ) → wordsAfter v l ≡ ahead (v ++ before (isOf Blank) l) (wordsOf (from (isOf Blank) l))) →
-  wordsAfter w (b ∷ l) ≡ ahead (w ++ before (isOf Blank) (b ∷ l)) (wordsOf (from (isOf Blank) (b ∷ l)))
+    ((v : List ℕ) → wordsAfter v l ≡ ahead (v ++ before (isOf Blank) l) (wordsOf (from (isOf Blank) l))) →
+    wordsAfter w (b ∷ l) ≡ ahead (w ++ before (isOf Blank) (b ∷ l)) (wordsOf (from (isOf Blank) (b ∷ l)))
 unfolding isOf before from wordsAfter ahead
 run-by true b l w e h = rw (e, e, append-nil)
 run-by false b l w e h = rw (e, h (w ++ b ∷ []), append-assoc)
@@ -37,7 +37,7 @@ run [] w = rw append-nil
 run (b ∷ l) w = run-by (isBlank b) b l w refl (λ v. run l v)
 
 begins-by : (t : Bool) (b : ℕ) (l : List ℕ) → isBlank b ≡ t → length (before (isOf NoBlank) (b ∷ l)) ≡ 0 →
-  wordsOf (b ∷ l) ≡ before (isOf Blank) (b ∷ l) ∷ wordsOf (from (isOf Blank) (b ∷ l))
+    wordsOf (b ∷ l) ≡ before (isOf Blank) (b ∷ l) ∷ wordsOf (from (isOf Blank) (b ∷ l))
 unfolding isOf before from ahead
 begins-by true b l e h = absurd (none (rw e at h))
   where
@@ -67,16 +67,16 @@ start t i h =
     (rw e (sits (isOf NoBlank) t), rw e (skip t))
 
 pub next : (t : List ℕ) (i n e j : ℕ) → Stands t i n → e ≡ i + length (before (isOf Blank) (drop i t)) →
-  j ≡ e + length (before (isOf NoBlank) (drop e t)) → Stands t j (n + 1)
+    j ≡ e + length (before (isOf NoBlank) (drop e t)) → Stands t j (n + 1)
 next t i n e j h f g =
     let a : drop e t ≡ from (isOf Blank) (drop i t) = rest (isOf Blank) t i e f in
-    let b : drop j t ≡ from (isOf NoBlank) (drop e t) = rest (isOf NoBlank) t e j g in
-    ( rw b (sits (isOf NoBlank) (drop e t))
-    , rw b (skip (drop e t) ∙ rw a (sym (other-words (drop i t) (h .0)) ∙ rw (h .1) (drop-drop 1 n (wordsOf t))))
+    let b : drop j t ≡ from (isOf NoBlank) (drop e t) = rest (isOf NoBlank) t e j g in (
+      rw b (sits (isOf NoBlank) (drop e t)),
+      rw b (skip (drop e t) ∙ rw a (sym (other-words (drop i t) (h .0)) ∙ rw (h .1) (drop-drop 1 n (wordsOf t)))),
     )
 
 pub word-at : (t : List ℕ) (i n e : ℕ) → Stands t i n → e ≡ i + length (before (isOf Blank) (drop i t)) →
-  take (e - i) (drop i t) ≡ getD (wordsOf t) n []
+    take (e - i) (drop i t) ≡ getD (wordsOf t) n []
 word-at t i n e h f =
     part (isOf Blank) t i e f
     ∙ sym (this-word (drop i t) (h .0))

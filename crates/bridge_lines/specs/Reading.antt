@@ -39,9 +39,9 @@ judged place (w ∷ ws) good =
 abbrev pub bridgeOf : List (List ℕ) → Bridge
 bridgeOf ws =
     let v : ℕ → Float = λ (i : ℕ). valueOf (getD ws i []) in
-    record
-    { conic = conicFrom (pointFrom (v 0) (v 1)) (pointFrom (v 2) (v 3)) (pointFrom (v 4) (v 5)) (v 6)
-    ; level = sizeOf (getD ws 7 [])
+    record {
+      conic = conicFrom (pointFrom (v 0) (v 1)) (pointFrom (v 2) (v 3)) (pointFrom (v 4) (v 5)) (v 6);
+      level = sizeOf (getD ws 7 []);
     }
 
 unfoldable pub lineOf : List (List ℕ) → Line

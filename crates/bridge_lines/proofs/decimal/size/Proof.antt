@@ -40,13 +40,14 @@ loop-again c =
     let i : ℕ = c .before .before .before .loop .i in
     let n : ℕ = c .before .before .before .loop .n in
     let h : i < length w = omega arith in
-    let e : c .with-digit .result ≡ min (sizeAfter n (getD w i 0 ∷ [])) 1000000000 = c .with-digit .ensures in
-    ( omega arith
-    , ( omega arith
-      , rw (e, add-one)
-        (held 1000000000 (sizeAfter n (getD w i 0 ∷ [])) (drop (suc i) w)
-        ∙ (rw (drop-cons w i 0 h) at (c .before .before .before .loop .inv .1 .1)))
-      )
+    let e : c .with-digit .result ≡ min (sizeAfter n (getD w i 0 ∷ [])) 1000000000 = c .with-digit .ensures in (
+      omega arith,
+      (
+        omega arith,
+        rw (e, add-one)
+            (held 1000000000 (sizeAfter n (getD w i 0 ∷ [])) (drop (suc i) w)
+            ∙ (rw (drop-cons w i 0 h) at (c .before .before .before .loop .inv .1 .1))),
+      ),
     )
 
 returns : tie.Need-returns Inv-loop μ-loop

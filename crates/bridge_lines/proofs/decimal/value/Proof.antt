@@ -32,14 +32,14 @@ unfolding valueOf
 returns c =
     let w : List ℕ = c .before .before .before .before .before .before .before .before .args .w .now in
     let n : c .before .before .before .before .before .before .size .result ≡ sizeOf w = omega (arith, c .before .before .before .before .before .before .before .before .pre .0) in
-    rw
-    ( ← c .before .is-negative .ensures
-    , c .if1 .taken
-    , c .before .before .before .nearest-u32-to-f32 .ensures
-    , c .before .before .nearest-u32-to-f322 .ensures
-    , n
-    , c .before .before .before .before .power .ensures
-    , c .before .before .before .before .before .past-point .ensures
+    rw (
+      ← c .before .is-negative .ensures,
+      c .if1 .taken,
+      c .before .before .before .nearest-u32-to-f32 .ensures,
+      c .before .before .nearest-u32-to-f322 .ensures,
+      n,
+      c .before .before .before .before .power .ensures,
+      c .before .before .before .before .before .past-point .ensures,
     )
 
 returns-2 : tie.Need-returns-2
@@ -47,14 +47,14 @@ unfolding valueOf
 returns-2 c =
     let w : List ℕ = c .before .before .before .before .before .before .before .before .args .w .now in
     let n : c .before .before .before .before .before .before .size .result ≡ sizeOf w = omega (arith, c .before .before .before .before .before .before .before .before .pre .0) in
-    rw
-    ( ← c .before .is-negative .ensures
-    , c .if1 .left
-    , c .before .before .before .nearest-u32-to-f32 .ensures
-    , c .before .before .nearest-u32-to-f322 .ensures
-    , n
-    , c .before .before .before .before .power .ensures
-    , c .before .before .before .before .before .past-point .ensures
+    rw (
+      ← c .before .is-negative .ensures,
+      c .if1 .left,
+      c .before .before .before .nearest-u32-to-f32 .ensures,
+      c .before .before .nearest-u32-to-f322 .ensures,
+      n,
+      c .before .before .before .before .power .ensures,
+      c .before .before .before .before .before .past-point .ensures,
     )
 
 pub value-spec : {M : Type 1} → statement M

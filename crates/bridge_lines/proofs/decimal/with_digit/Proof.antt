@@ -28,18 +28,18 @@ add-result c = search needs
 returns-3 : tie.Need-returns-3
 unfolding sizeAfter
 returns-3 c =
-    rw
-    ( le-leb 48 (c .before .before .before .args .b) (c .before .before .if1 .left)
-    , le-leb (c .before .before .before .args .b) 57 (c .before .if2 .left)
+    rw (
+      le-leb 48 (c .before .before .before .args .b) (c .before .before .if1 .left),
+      le-leb (c .before .before .before .args .b) 57 (c .before .if2 .left),
     )
     (omega arith)
 
 returns-4 : tie.Need-returns-4
 unfolding sizeAfter
 returns-4 c =
-    rw
-    ( le-leb 48 (c .before .before .before .args .b) (c .before .before .if1 .left)
-    , le-leb (c .before .before .before .args .b) 57 (c .before .if2 .left)
+    rw (
+      le-leb 48 (c .before .before .before .args .b) (c .before .before .if1 .left),
+      le-leb (c .before .before .before .args .b) 57 (c .before .if2 .left),
     )
     (omega arith)
 

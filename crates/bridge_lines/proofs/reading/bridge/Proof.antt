@@ -39,7 +39,7 @@ size-requires c κs = search needs
 returns : tie.Need-returns
 returns c =
     let r : sizeOf (c .before .word .result .now) < 1000000000 =
-        ranged 8 (c .before .word .result .now) (rw (c .before .word .ensures) (c .before .before .before .before .before .before .before .before .before .before .pre 7 (lit< tt))) .0 in
+    ranged 8 (c .before .word .result .now) (rw (c .before .word .ensures) (c .before .before .before .before .before .before .before .before .before .before .pre 7 (lit< tt))) .0 in
     let e : c .size .result ≡ sizeOf (c .before .word .result .now) = omega arith in
     cc
 

@@ -17,11 +17,11 @@ past-point-requires c κs = search needs
 
 returns : tie.Need-returns
 returns c =
-    rw
-    ( c .before .before .size .ensures
-    , c .before .limit .ensures
-    , c .past-point .ensures
-    , below 1000000000 (sizeOf (c .before .before .before .before .args .w .now)) (limitOf (c .before .before .before .before .args .place)) (limit-below (c .before .before .before .before .args .place))
+    rw (
+      c .before .before .size .ensures,
+      c .before .limit .ensures,
+      c .past-point .ensures,
+      below 1000000000 (sizeOf (c .before .before .before .before .args .w .now)) (limitOf (c .before .before .before .before .args .place)) (limit-below (c .before .before .before .before .args .place)),
     )
 
 pub in-range-spec : {M : Type 1} → statement M

@@ -75,7 +75,7 @@ returns-3 c =
     let h : k < 8 = omega arith in
     let e : drop k (wordsOf text) ≡ getD (wordsOf text) k [] ∷ drop (k + 1) (wordsOf text) = goes (wordsOf text) k (rw w at (c .before .before .if2 .left)) in
     let f : hasForm (k + 1) (getD (wordsOf text) k []) ≡ false =
-        rw (← w) (sym (c .before .has-form .ensures) ∙ not-true (c .before .has-form .result) (c .if3 .taken)) in
+    rw (← w) (sym (c .before .has-form .ensures) ∙ not-true (c .before .has-form .result) (c .if3 .taken)) in
     no-number (wordsOf text) k j h e f
 
 add-in-range : tie.Need-add-in-range Inv-loop μ-loop
@@ -96,9 +96,9 @@ returns-4 c =
     let h : k < 8 = omega arith in
     let e : drop k (wordsOf text) ≡ getD (wordsOf text) k [] ∷ drop (k + 1) (wordsOf text) = goes (wordsOf text) k (rw w at (c .before .before .before .before .if2 .left)) in
     let f : hasForm (k + 1) (getD (wordsOf text) k []) ≡ true =
-        rw (← w) (sym (c .before .before .before .has-form .ensures) ∙ not-false (c .before .before .before .has-form .result) (c .before .before .if3 .left)) in
+    rw (← w) (sym (c .before .before .before .has-form .ensures) ∙ not-false (c .before .before .before .has-form .result) (c .before .before .if3 .left)) in
     let r : inRange (k + 1) (getD (wordsOf text) k []) ≡ false =
-        rw (← w) (sym (c .before .in-range .ensures) ∙ not-true (c .before .in-range .result) (c .if4 .taken)) in
+    rw (← w) (sym (c .before .in-range .ensures) ∙ not-true (c .before .in-range .result) (c .if4 .taken)) in
     out-of-range (wordsOf text) k j h e f r
 
 add-k : tie.Need-add-k Inv-loop μ-loop
@@ -116,9 +116,9 @@ loop-again c =
     let h : k < 8 = omega arith in
     let e : drop k (wordsOf text) ≡ getD (wordsOf text) k [] ∷ drop (k + 1) (wordsOf text) = goes (wordsOf text) k (rw w at (c .before .before .before .before .if2 .left)) in
     let f : hasForm (k + 1) (getD (wordsOf text) k []) ≡ true =
-        rw (← w) (sym (c .before .before .before .has-form .ensures) ∙ not-false (c .before .before .before .has-form .result) (c .before .before .if3 .left)) in
+    rw (← w) (sym (c .before .before .before .has-form .ensures) ∙ not-false (c .before .before .before .has-form .result) (c .before .before .if3 .left)) in
     let r : inRange (k + 1) (getD (wordsOf text) k []) ≡ true =
-        rw (← w) (sym (c .before .in-range .ensures) ∙ not-false (c .before .in-range .result) (c .if4 .left)) in
+    rw (← w) (sym (c .before .in-range .ensures) ∙ not-false (c .before .in-range .result) (c .if4 .left)) in
     (omega arith, (below-more _ _ (c .before .before .before .before .before .before .before .loop .inv .1 .0) r, right (wordsOf text) k j h e f r))
 
 word-requires-3 : tie.Need-word-requires-3 Inv-loop μ-loop

@@ -27,18 +27,18 @@ is-of-requires : tie.Need-is-of-requires Inv-loop μ-loop
 is-of-requires c κs = tt
 
 returns : tie.Need-returns Inv-loop μ-loop
-returns c =
-    ( omega arith
-    , omega
-      ( arith
-      , c .before .before .before .before .loop .inv .1
-      , stands (isOf (c .before .before .before .before .before .before .args .kind))
+returns c = (
+  omega arith,
+  omega (
+    arith,
+    c .before .before .before .before .loop .inv .1,
+    stands (isOf (c .before .before .before .before .before .before .args .kind))
         (c .before .before .before .before .before .before .args .s .now)
         (c .before .before .before .before .loop .i)
         (omega arith)
-        (sym (c .before .is-of .ensures) ∙ c .if1 .taken)
-      )
-    )
+        (sym (c .before .is-of .ensures) ∙ c .if1 .taken),
+  ),
+)
 
 add-i : tie.Need-add-i Inv-loop μ-loop
 add-i c = omega arith
@@ -48,32 +48,32 @@ loop-less c = omega arith
 
 loop-again : tie.Need-loop-again Inv-loop μ-loop
 loop-again c =
-    let e : c .before .before .before .before .loop .i + 1 ≡ suc (c .before .before .before .before .loop .i) = omega arith in
-    ( omega arith
-    , rw e
-      (omega
-      ( arith
-      , c .before .before .before .before .loop .inv .1
-      , passed (isOf (c .before .before .before .before .before .before .args .kind))
-        (c .before .before .before .before .before .before .args .s .now)
-        (c .before .before .before .before .loop .i)
-        (omega arith)
-        (sym (c .before .is-of .ensures) ∙ c .if1 .left)
-      ))
+    let e : c .before .before .before .before .loop .i + 1 ≡ suc (c .before .before .before .before .loop .i) = omega arith in (
+      omega arith,
+      rw e
+          (omega (
+            arith,
+            c .before .before .before .before .loop .inv .1,
+            passed (isOf (c .before .before .before .before .before .before .args .kind))
+                (c .before .before .before .before .before .before .args .s .now)
+                (c .before .before .before .before .loop .i)
+                (omega arith)
+                (sym (c .before .is-of .ensures) ∙ c .if1 .left),
+          )),
     )
 
 returns-2 : tie.Need-returns-2 Inv-loop μ-loop
-returns-2 c =
-    ( omega arith
-    , omega
-      ( arith
-      , c .before .loop .inv .1
-      , none (isOf (c .before .before .before .args .kind))
+returns-2 c = (
+  omega arith,
+  omega (
+    arith,
+    c .before .loop .inv .1,
+    none (isOf (c .before .before .before .args .kind))
         (c .before .before .before .args .s .now)
         (c .before .loop .i)
-        (omega arith)
-      )
-    )
+        (omega arith),
+  ),
+)
 
 pub first-spec : {M : Type 1} → statement M
 first-spec =

@@ -33,19 +33,20 @@ loop-less : tie.Need-loop-less Inv-loop μ-loop
 loop-less c = omega arith
 
 loop-again : tie.Need-loop-again Inv-loop μ-loop
-loop-again c =
-    ( omega arith
-    , ( omega arith
-      , next (c .before .before .before .before .before .before .args .text .now)
+loop-again c = (
+  omega arith,
+  (
+    omega arith,
+    next (c .before .before .before .before .before .before .args .text .now)
         (c .before .before .before .loop .at)
         (c .before .before .before .loop .n)
         (c .before .first2 .result)
         (c .first3 .result)
         (c .before .before .before .loop .inv .1 .1)
         (c .before .first2 .ensures .1)
-        (c .first3 .ensures .1)
-      )
-    )
+        (c .first3 .ensures .1),
+  ),
+)
 
 first-requires-4 : tie.Need-first-requires-4 Inv-loop μ-loop
 first-requires-4 c κs = omega arith
