@@ -1,9 +1,11 @@
--- Laws on sizes in thousandths: equal fractions have the same, a float has that of any fraction that it equals, and what q * 2 ^ x / 2 ^ 149 comes to by x.
+-- Laws on sizes in thousandths: equal fractions have the same, a float has that of any fraction that it equals, and
+-- what q * 2 ^ x / 2 ^ 149 comes to by x.
 -- Assumes nothing.
 use mathlib.Core.Path.{_≡_, refl, sym, ap, _∙_}
 use mathlib.Core.Bool.{Bool}
 use Prim.Native.Nat.{ℕ, zero, suc, _+_, _-_, _*_, _/_, _^_, _≤_, _<_, min}
-use native.Mathlib.Nat.{mul-comm, mul-assoc, mul-one, mul-div-mul-right, mul-le-mul, div-eq-of-lt, lt-of-lt-of-le, min-eq-right, sub-add-cancel, add-comm}
+use native.Mathlib.Nat.{mul-comm, mul-assoc, mul-one, mul-div-mul-right, mul-le-mul, div-eq-of-lt, lt-of-lt-of-le}
+use native.Mathlib.Nat.{min-eq-right, sub-add-cancel, add-comm}
 use native.Mathlib.Omega.{arith}
 use borrow.Author.Tests.{ne-eqb}
 use lib.Dec.{lit<}
@@ -68,9 +70,11 @@ pub of-low : (s : Bool) (x t : ℕ) → x ≡ 0 → thousandthsOf (ofFields bina
 unfolding ofFields
 of-low s x t e = rw e (of-value (odd 24 s t 0 149) s (t * 2 ^ 0) (2 ^ 149) (pow-pos 149) (odd-sign 24 s t 0 149))
 
-pub of-high : (s : Bool) (x t : ℕ) → (x ≡ 0 → ⊥) → (x ≡ 255 → ⊥) → thousandthsOf (ofFields binary32 s x t) ≡ heldOf ((t + 2 ^ 23) * 2 ^ (x - 1)) (2 ^ 149)
+pub of-high : (s : Bool) (x t : ℕ) → (x ≡ 0 → ⊥) → (x ≡ 255 → ⊥) →
+    thousandthsOf (ofFields binary32 s x t) ≡ heldOf ((t + 2 ^ 23) * 2 ^ (x - 1)) (2 ^ 149)
 unfolding ofFields
 of-high s zero t p n = absurd (p refl)
 of-high s (suc x) t p n =
     let e : suc x - 1 ≡ x = omega arith in
-    rw (ne-eqb (suc x) 255 n, e, add-comm t (2 ^ 23)) (of-value (odd 24 s (2 ^ 23 + t) x 149) s ((2 ^ 23 + t) * 2 ^ x) (2 ^ 149) (pow-pos 149) (odd-sign 24 s (2 ^ 23 + t) x 149))
+    rw (ne-eqb (suc x) 255 n, e, add-comm t (2 ^ 23))
+    (of-value (odd 24 s (2 ^ 23 + t) x 149) s ((2 ^ 23 + t) * 2 ^ x) (2 ^ 149) (pow-pos 149) (odd-sign 24 s (2 ^ 23 + t) x 149))

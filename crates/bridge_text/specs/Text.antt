@@ -3,7 +3,8 @@ use Prim.Native.Nat.{ℕ, _+_, _/_, _%_, max}
 use mathlib.Core.Bool.{Bool, cond, _&&_}
 use mathlib.Core.List.{List, [], _∷_}
 use lib.Dec.{leb, ltb}
-use lib.Ieee.{Float, binary32, lt, ofBits}
+use lib.Ieee.{Float, lt}
+use Rattle.float_laws.specs.Formula.{zero32}
 use Rattle.bridge_text.specs.Thousandths.{thousandthsOf}
 
 -- the digit of weight p, as a byte
@@ -41,4 +42,4 @@ unfoldable pub textOf : Float → List ℕ
 unfolding thousandthsOf columnsOf
 textOf v =
     let n = thousandthsOf v in
-    cond (ltb n 1000000000000) (columnsOf (lt v (ofBits binary32 0) && ltb 0 n) n) beyond
+    cond (ltb n 1000000000000) (columnsOf (lt v zero32 && ltb 0 n) n) beyond

@@ -14,10 +14,14 @@ whole-requires : tie.Need-whole-requires
 whole-requires c κs = search needs
 
 returns-2 : tie.Need-returns-2
-returns-2 c = c .whole .ensures ∙ ap (λ (y : ℕ). min y 1000000000000) (sym (left (c .before .before .before .args .q) (c .before .before .before .args .x) (c .before .if2 .taken)))
+returns-2 c =
+    let a : tie.Start = c .before .before .before in
+    c .whole .ensures ∙ ap (λ (y : ℕ). min y 1000000000000) (sym (left (a .args .q) (a .args .x) (c .before .if2 .taken)))
 
 returns-3 : tie.Need-returns-3
-returns-3 c = sym (little (c .before .before .before .args .q) (c .before .before .before .args .x) (c .before .before .before .pre .0) (c .if3 .taken))
+returns-3 c =
+    let a : tie.Start = c .before .before .before in
+    sym (little (a .args .q) (a .args .x) (a .pre .0) (c .if3 .taken))
 
 sub-part : tie.Need-sub-part
 sub-part c = search needs
@@ -30,7 +34,9 @@ held-requires c κs = search needs
 
 returns-4 : tie.Need-returns-4
 returns-4 c =
-    c .held .ensures ∙ ap (λ (y : ℕ). min y 1000000000000) (c .before .part .ensures ∙ sym (right (c .before .before .before .before .before .args .q) (c .before .before .before .before .before .args .x) (omega arith)))
+    let a : tie.Start = c .before .before .before .before .before in
+    c .held .ensures
+    ∙ ap (λ (y : ℕ). min y 1000000000000) (c .before .part .ensures ∙ sym (right (a .args .q) (a .args .x) (omega arith)))
 
 pub scaled-spec : {M : Type 1} → statement M
 scaled-spec =

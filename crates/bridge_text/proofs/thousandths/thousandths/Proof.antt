@@ -1,10 +1,10 @@
 -- `thousandths::thousandths` meets its contract: the fields of the pattern tell the size. Assumes nothing.
 use mathlib.Core.Path.{_≡_, sym, ap, _∙_, subst}
 use Prim.Native.Nat.{ℕ, _/_, _%_}
-use mathlib.Core.Bool.{Bool}
+use mathlib.Core.Bool.{Bool, not}
 use native.Mathlib.Omega.{arith}
 use lib.Dec.{T, leb}
-use lib.Ieee.{binary32, fits, toBits, ofFields}
+use lib.Ieee.{binary32, fits, isNan, toBits, ofFields}
 use lib.Ieee.Compare.{differs-from-itself}
 use lib.Ieee.Bits.{toBits-lt}
 use Rattle.float_laws.proofs.Sign.{equals-itself}
@@ -44,14 +44,18 @@ cast-b c = omega (arith, toBits-lt binary32 (c .before .args .v) (held (c .befor
 returns-2 : tie.Need-returns-2
 unfolding thousandthsOf
 returns-2 c =
-    sym (sym (is (c .before .before)) ∙ ap thousandthsOf (fields-infinite binary32 (negative (c .before .before)) (field (c .before .before)) (bits (c .before .before) % 8388608) (c .if2 .taken)
-    (fields-in binary32 (c .before .before .args .v) (held (c .before .before)) (equals-itself (c .before .before .args .v) (c .before .if1 .left)) .1 .1 (c .if2 .taken))))
+    let a : tie.Start = c .before .before in
+    let n : T (not (isNan (a .args .v))) = equals-itself (a .args .v) (c .before .if1 .left) in
+    let z : bits a % 8388608 ≡ 0 = fields-in binary32 (a .args .v) (held a) n .1 .1 (c .if2 .taken) in
+    sym (sym (is a) ∙ ap thousandthsOf (fields-infinite binary32 (negative a) (field a) (bits a % 8388608) (c .if2 .taken) z))
 
 scaled-requires : tie.Need-scaled-requires
 scaled-requires c κs = search needs
 
 returns-3 : tie.Need-returns-3
-returns-3 c = c .scaled .ensures ∙ sym (of-low (negative (c .before .before .before .before)) (field (c .before .before .before .before)) (bits (c .before .before .before .before) % 8388608) (c .before .if3 .taken)) ∙ is (c .before .before .before .before)
+returns-3 c =
+    let a : tie.Start = c .before .before .before .before in
+    c .scaled .ensures ∙ sym (of-low (negative a) (field a) (bits a % 8388608) (c .before .if3 .taken)) ∙ is a
 
 add-scaled : tie.Need-add-scaled
 add-scaled c = search needs
@@ -63,7 +67,11 @@ scaled-requires-2 : tie.Need-scaled-requires-2
 scaled-requires-2 c κs = search needs
 
 returns-4 : tie.Need-returns-4
-returns-4 c = c .scaled2 .ensures ∙ sym (of-high (negative (c .before .before .before .before)) (field (c .before .before .before .before)) (bits (c .before .before .before .before) % 8388608) (c .before .if3 .left) (c .before .before .if2 .left)) ∙ is (c .before .before .before .before)
+returns-4 c =
+    let a : tie.Start = c .before .before .before .before in
+    c .scaled2 .ensures
+    ∙ sym (of-high (negative a) (field a) (bits a % 8388608) (c .before .if3 .left) (c .before .before .if2 .left))
+    ∙ is a
 
 pub thousandths-spec : {M : Type 1} → statement M
 thousandths-spec =

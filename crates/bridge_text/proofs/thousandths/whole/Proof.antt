@@ -19,7 +19,8 @@ held-requires c κs = search needs
 
 returns : tie.Need-returns
 returns c =
-    let p : c .before .args .q * 2 ^ c .before .args .j < 2 ^ 64 = omega (arith, shifted (c .before .args .q) (c .before .args .j) (c .before .pre .0) (c .before .pre .1)) in
+    let a : tie.Start = c .before in
+    let p : a .args .q * 2 ^ a .args .j < 2 ^ 64 = omega (arith, shifted (a .args .q) (a .args .j) (a .pre .0) (a .pre .1)) in
     c .held .ensures ∙ rw (mod-eq-of-lt p)
 
 pub whole-spec : {M : Type 1} → statement M
