@@ -2,14 +2,14 @@
 use mathlib.Core.Path.{_≡_, refl, sym, ap, _∙_}
 use mathlib.Core.Bool.{Bool, true, false, cond, _&&_}
 use mathlib.Core.List.{List, [], _∷_}
-use Prim.Native.Nat.{ℕ, suc, _+_, _-_, _*_, _≤_, _<_, min}
+use Prim.Native.Nat.{ℕ, zero, suc, _+_, _-_, _*_, _^_, _≤_, _<_, min}
 use native.Mathlib.Nat.{le-trans, lt-of-le-of-lt, min-eq-left, min-eq-right}
 use native.Mathlib.Omega.{arith}
-use lib.ListN.{length}
+use lib.ListN.{length, getD, drop, length-drop}
 use lib.Dec.{leb, ltb}
-use borrow.Author.Tests.{leb-true, leb-false, le-leb, lt-leb}
+use borrow.Author.Tests.{leb-true, leb-false, le-leb, lt-leb, lt-ltb, le-ltb}
 use Rattle.bridge_lines.specs.Words.{isDigit}
-use Rattle.bridge_lines.specs.Decimal.{decimals, sizeAfter, sizeOf}
+use Rattle.bridge_lines.specs.Decimal.{isNegative, unsigned, decimals, sizeAfter, sizeOf}
 use Rattle.bridge_lines.specs.Reading.{limitOf, inRange}
 
 next-by : (t : Bool) (n b : ℕ) → n ≤ cond t (10 * n + (b - 48)) n
@@ -66,3 +66,27 @@ ranged place w e =
       lt-of-le-of-lt (leb-true (sizeOf w) (limitOf place) (b .0)) (limit-below place),
       leb-true (length (decimals w)) 6 (b .1),
     )
+
+-- ---- the sign and the scale
+
+signed-by : (t : Bool) (w : List ℕ) → isNegative w ≡ t → 0 < length w → ltb (length (cond t (drop 1 w) w)) (length w) ≡ t
+signed-by true w e h = lt-ltb (length (drop 1 w)) (length w) (omega (arith, length-drop 1 w))
+signed-by false w e h = le-ltb (length w) (length w) (omega arith)
+
+-- a word is longer than without its minus where it has one
+pub signed : (w : List ℕ) → ltb (length (unsigned w)) (length w) ≡ isNegative w
+signed [] = refl
+signed (b ∷ w) = signed-by (isNegative (b ∷ w)) (b ∷ w) refl (omega arith)
+
+pub powers : (n : ℕ) → n ≤ 6 → getD (1 ∷ 10 ∷ 100 ∷ 1000 ∷ 10000 ∷ 100000 ∷ 1000000 ∷ []) n 0 ≡ 10 ^ n
+powers zero h = refl
+powers (suc zero) h = refl
+powers (suc (suc zero)) h = refl
+powers (suc (suc (suc zero))) h = refl
+powers (suc (suc (suc (suc zero)))) h = refl
+powers (suc (suc (suc (suc (suc zero))))) h = refl
+powers (suc (suc (suc (suc (suc (suc zero)))))) h = refl
+powers (suc (suc (suc (suc (suc (suc (suc n))))))) h = absurd (none n h)
+  where
+    none : (n : ℕ) → suc (suc (suc (suc (suc (suc (suc n)))))) ≤ 6 → ⊥
+    none n h = omega arith

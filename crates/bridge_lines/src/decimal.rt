@@ -1,20 +1,10 @@
 // What a word comes to as a decimal number.
 ghost use mathlib.Core.Path.{_≡_};
-ghost use Prim.Native.Nat.{_≤_, _<_, _^_, min};
-ghost use lib.ListN.{length};
-ghost use Rattle.bridge_lines.specs.Decimal.{isNegative, unsigned, isWhole, decimals, isDecimal, sizeOf, sizeAfter, valueOf};
+ghost use Prim.Native.Nat.{_≤_, min};
+ghost use Rattle.bridge_lines.specs.Decimal.{unsigned, isWhole, decimals, isDecimal, sizeOf, sizeAfter};
 ghost use mathlib.Core.List.{[], _∷_};
 use super::scan;
 use super::scan::Kind;
-
-pub fn is_negative(w: &[u8]) -> bool
-    ensures { λ r. ⌜ r ≡ isNegative (now (w .entry)) ⌝ }
-{
-    if w.len() == 0 {
-        return false;
-    }
-    w[0] == b'-'
-}
 
 // The word without its minus.
 pub fn without_sign(w: &[u8]) -> &[u8]
@@ -84,30 +74,4 @@ pub fn size(w: &[u8]) -> u32
         i += 1;
     }
     n
-}
-
-fn power(n: usize) -> u32
-    requires { ⌜ n ≤ 6 ⌝ }
-    ensures { λ r. ⌜ r ≡ 10 ^ n ⌝ }
-{
-    match n {
-        0 => 1,
-        1 => 10,
-        2 => 100,
-        3 => 1000,
-        4 => 10000,
-        5 => 100000,
-        _ => 1000000,
-    }
-}
-
-// The value of a word that is in range. Both numbers are floats exactly, so it is rounded once.
-pub fn value(w: &[u8]) -> f32
-    requires { ⌜ sizeOf (now w) < 1000000000 ⌝ ∗ ⌜ length (decimals (now w)) ≤ 6 ⌝ }
-    ensures { λ r. ⌜ r ≡ valueOf (now (w .entry)) ⌝ }
-{
-    let size = size(w);
-    let scale = power(past_point(w).len());
-    let q = std::num::nearest_u32_to_f32(size) / std::num::nearest_u32_to_f32(scale);
-    if is_negative(w) { -q } else { q }
 }

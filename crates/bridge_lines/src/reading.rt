@@ -47,12 +47,23 @@ fn in_range(place: u32, w: &[u8]) -> bool
     (decimal::size(w) <= limit(place)) & (decimal::past_point(w).len() <= 6)
 }
 
-// The number at a place from 1 to 7.
+// Ten to the power of each number of decimals.
+const POWERS: [u32; 7] = [1, 10, 100, 1000, 10000, 100000, 1000000];
+
+// The value of the word with k words before it, which is in range: both numbers are floats exactly, so it is rounded once.
 fn value(text: &[u8], k: u32) -> f32
     requires { ⌜ inRange (k + 1) (getD (wordsOf (now text)) k []) ≡ true ⌝ }
     ensures { λ r. ⌜ r ≡ valueOf (getD (wordsOf (now (text .entry))) k []) ⌝ }
 {
-    decimal::value(scan::word(text, k))
+    let w = scan::word(text, k);
+    let size = std::num::nearest_u32_to_f32(decimal::size(w));
+    let scale = std::num::nearest_u32_to_f32(POWERS[decimal::past_point(w).len()]);
+    let q = size / scale;
+    if decimal::without_sign(w).len() < w.len() {
+        -q
+    } else {
+        q
+    }
 }
 
 // The bridge of eight words that are in range.
