@@ -1,13 +1,15 @@
 -- The steps that the formulas share, in binary32: each operation rounds once, in the order that the Rust writes it. Definitions only.
 use mathlib.Core.Bool.{Bool, not, _&&_}
-use lib.Ieee.{Float, lt, le, eq}
+use lib.Ieee.{Float, le, eq}
 use Rattle.float_laws.specs.Formula.{_⊕_, _⊖_, _⊗_, zero32, one32}
 use Rattle.point.specs.declared.Point.{Point}
 use Rattle.point.specs.Point.{pointFrom}
+use Rattle.quad_roots.specs.Roots.{inside}
 
 abbrev pub times2 : Float → Float
 times2 v = v ⊕ v
 
+-- (a·t + b)·t + c
 abbrev pub squareAt : Float → Float → Float → Float → Float
 squareAt a b c t = (a ⊗ t ⊕ b) ⊗ t ⊕ c
 
@@ -16,7 +18,7 @@ abbrev pub outsideUnit : Float → Bool
 outsideUnit t = not (le zero32 t && le t one32)
 
 abbrev pub outsideOpenUnit : Float → Bool
-outsideOpenUnit t = not (lt zero32 t && lt t one32)
+outsideOpenUnit t = not (inside t)
 
 abbrev pub same : Point → Point → Bool
 same p q = eq (p .x) (q .x) && eq (p .y) (q .y)
