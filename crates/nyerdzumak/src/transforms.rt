@@ -114,7 +114,7 @@ fn give_inverse(answer: Inversion, out: &mut [f32; 6]) -> u32
     let number = answer.number();
     match answer {
         Inversion::Inverted(t) => {
-            *out = [t.sx, t.ky, t.kx, t.sy, t.tx, t.ty];
+            give(t, out);
             number
         }
         Inversion::NearlySingular => number,

@@ -1,11 +1,10 @@
 -- `nyerdzumak::transforms::give_inverse` meets its contract, by the case of the answer. Assumes nothing.
-use mathlib.Core.Path.{refl}
 use borrow.Author.Needs.{needs}
 use Rattle.nyerdzumak.proofs.transforms.give_inverse.Statement.{statement}
 use Rattle.nyerdzumak.proofs.transforms.give_inverse.Tie as tie
 
 returns : tie.Need-returns
-returns c = (c .before .before .before .before .number .ensures, rw (c .before .before .answer .given .1) refl)
+returns c = (c .before .before .before .before .before .number .ensures, rw (c .before .before .before .answer .given .1) (c .give .ensures))
 
 returns-2 : tie.Need-returns-2
 returns-2 c = search needs
@@ -14,4 +13,14 @@ returns-3 : tie.Need-returns-3
 returns-3 c = search needs
 
 pub give-inverse-spec : {M : Type 1} → statement M
-give-inverse-spec = tie.close (tie.spec (λ c κs. tt) (λ c. search needs) (λ c. search needs) (λ c. search needs) returns returns-2 returns-3)
+give-inverse-spec =
+    tie.close
+    (tie.spec
+    (λ c κs. tt)
+    (λ c. search needs)
+    (λ c κs. tt)
+    (λ c. search needs)
+    (λ c. search needs)
+    returns
+    returns-2
+    returns-3)
