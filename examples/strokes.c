@@ -16,10 +16,10 @@ static float date(const float *points, nz_len quads, float recorded) {
     return y < low ? low : y > high ? high : y;
 }
 
-// Whether the xs along the points never fall: the library's promise is on the ys, and strokes are looked up by x.
+// Whether the xs of the quads' ends never fall: the library's promise is on the ys, and strokes are looked up by x.
 static bool forward(const float *points, nz_len quads) {
-    for (nz_len k = 0; k < 2 * quads; k++)
-        if (!(points[2 * k] <= points[2 * k + 2])) return false;
+    for (nz_len k = 0; k < quads; k++)
+        if (!(points[4 * k] <= points[4 * k + 4])) return false;
     return true;
 }
 

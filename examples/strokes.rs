@@ -16,9 +16,9 @@ fn date(points: &[f32], quads: usize, recorded: f32) -> f32 {
     y.clamp(p[1].min(q[1]), p[1].max(q[1]))
 }
 
-// Whether the xs along the points never fall: the library's promise is on the ys, and strokes are looked up by x.
+// Whether the xs of the quads' ends never fall: the library's promise is on the ys, and strokes are looked up by x.
 fn forward(points: &[f32]) -> bool {
-    points.chunks(2).zip(points.chunks(2).skip(1)).all(|(p, q)| p[0] <= q[0])
+    points.chunks(4).zip(points.chunks(4).skip(1)).all(|(p, q)| p[0] <= q[0])
 }
 
 fn cut(bridge: &[f32], weight: f32, level: u32, out: &mut [f32]) -> u32 {

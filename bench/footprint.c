@@ -1,0 +1,49 @@
+// How deep a cut goes into the stack: it is called on a stack of its own, painted before, and what lost its paint is counted.
+#include <pthread.h>
+#include <stdio.h>
+#include <stdlib.h>
+#include <string.h>
+
+#include "../include/nyerdzumak.h"
+
+enum { ROOM = 1 << 18, PAINT = 0xa5 };
+
+static const float bridge[6] = {1000, 1000, 1500, 1100, 2000, 2400};
+static float out[NZ_CUT_ROOM(NZ_MAX_LEVEL)];
+static float places[128];
+static nz_len quads;
+
+static void *nothing(void *p) {
+    return p;
+}
+
+static void *in_order(void *p) {
+    nz_cut_in_order(bridge, 6, 0.75f, NZ_MAX_LEVEL, out, NZ_CUT_ROOM(NZ_MAX_LEVEL));
+    return p;
+}
+
+static void *automatic(void *p) {
+    nz_auto_conic_to_quads(bridge, 6, 0.75f, places, &quads);
+    return p;
+}
+
+static size_t deep(void *(*call)(void *)) {
+    unsigned char *stack = aligned_alloc(4096, ROOM);
+    memset(stack, PAINT, ROOM);
+    pthread_attr_t attr;
+    pthread_t thread;
+    pthread_attr_init(&attr);
+    if (pthread_attr_setstack(&attr, stack, ROOM) || pthread_create(&thread, &attr, call, NULL)) exit(1);
+    pthread_join(thread, NULL);
+    size_t k = 0;
+    while (k < ROOM && stack[k] == PAINT) k++;
+    free(stack);
+    return ROOM - k;
+}
+
+int main(void) {
+    size_t base = deep(nothing); // what a thread takes of itself
+    printf("stack of nz_cut_in_order at level 4: %zu bytes\n", deep(in_order) - base);
+    printf("stack of nz_auto_conic_to_quads: %zu bytes\n", deep(automatic) - base);
+    return 0;
+}
