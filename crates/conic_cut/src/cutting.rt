@@ -37,8 +37,8 @@ fn put(out: &mut [f32], at: usize, p: Point) -> usize
     next + 1
 }
 
-// The rungs of a cut: a root and a division for each depth, and not for each chop. The halves of level 0 are stored and
-// not cut, so that their weight is never asked for.
+// The rungs of a cut: a division and a root for each depth, and not for each chop. The halves of level 0 are stored and not
+// cut, so that no root is taken for their weight.
 fn ladder(rungs: &mut [f32; RUNGS], weight: f32, level: u32)
     requires { ⌜ level ≤ deepest ⌝ }
     ensures { λ _. ⌜ now (rungs .exit) ≡ rungsOf (now (rungs .entry)) level weight ⌝ }
