@@ -17,7 +17,7 @@ use Rattle.conic.specs.declared.Rule.the-variants.{Exact}
 use Rattle.conic.specs.declared.chopping.Line.{Line}
 use Rattle.conic.specs.declared.chopping.Lines.{Lines}
 use Rattle.conic.specs.Between.{test, exactTest}
-use Rattle.conic.specs.Chop.{Axis, X, Y, along, on, scaleOf, weightOf, linesAt, linesOf, halvesAt, orders, mendedLine, mendedLines, chopAt, chopBy}
+use Rattle.conic.specs.Chop.{Axis, X, Y, along, on, scaleOf, weightOf, linesOf, halvesAt, orders, mendedLine, mendedLines, chopAt, chopBy}
 use Rattle.conic.specs.Mend.{nearerOf, orderedOf, mendedOf}
 
 -- ---- a direction: `le`, or `le` turned round

@@ -3,7 +3,6 @@ use mathlib.Core.Path.{_≡_, refl}
 use Prim.Native.Nat.{ℕ, zero, suc}
 use borrow.Author.Needs.{needs}
 use Rattle.conic.specs.Level.{levelOf, atLeastOne}
-use Rattle.conic.specs.Level.{levelOf}
 use Rattle.conic.proofs.leveling.level.Statement.{statement}
 use Rattle.conic.proofs.leveling.level.Tie as tie
 

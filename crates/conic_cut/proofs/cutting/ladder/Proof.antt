@@ -1,5 +1,5 @@
 -- `ladder` meets its contract. The loop's invariant: the rungs that are left to store make the whole ladder. Assumes nothing.
-use mathlib.Core.Path.{_≡_, refl, sym, _∙_}
+use mathlib.Core.Path.{_≡_, refl, _∙_}
 use Prim.Native.Nat.{_≤_}
 use native.Mathlib.Omega.{arith}
 use borrow.Author.Needs.{needs}
