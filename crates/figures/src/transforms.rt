@@ -1,6 +1,5 @@
 // The figures of the transforms.
 use super::print;
-use mapping::Mapping;
 use point::Point;
 use transform::Inversion;
 use transform::Transform;
@@ -26,10 +25,7 @@ fn mapped(name: &[u8], ts: Transform, p: Point) {
 fn mapped_numbers(name: &[u8], ts: Transform, x: f32, y: f32) {
     let mut numbers = [x, y];
     print::text(name);
-    match mapping::map_numbers(ts, &mut numbers) {
-        Mapping::Mapped => print::count(0),
-        Mapping::OddLength => print::count(9),
-    }
+    print::count(mapping::map_numbers(ts, &mut numbers).number() as u64);
     print::number(numbers[0]);
     print::number(numbers[1]);
     print::end();
@@ -38,13 +34,10 @@ fn mapped_numbers(name: &[u8], ts: Transform, x: f32, y: f32) {
 // The answer's number, then the six numbers of the inverse in the order of `from_row`.
 fn inverted(name: &[u8], ts: Transform) {
     print::text(name);
-    match ts.invert() {
-        Inversion::Inverted(inverse) => {
-            print::count(0);
-            six(inverse);
-        }
-        Inversion::NearlySingular => print::count(6),
-        Inversion::NotFinite => print::count(7),
+    let answer = ts.invert();
+    print::count(answer.number() as u64);
+    if let Inversion::Inverted(inverse) = answer {
+        six(inverse);
     }
     print::end();
 }
