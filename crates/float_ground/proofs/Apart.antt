@@ -2,7 +2,8 @@
 use mathlib.Core.Path.{_≡_, refl, sym, ap, _∙_, subst}
 use mathlib.Core.Bool.{Bool, not}
 use Prim.Native.Nat.{ℕ, zero, suc, _+_, _-_, _*_, _/_, _%_, _^_, _≤_, _<_}
-use native.Mathlib.Nat.{le-trans, le-of-eq, lt-of-lt-of-le, lt-of-le-of-lt, lt-of-not-le, lt-irrefl, mul-assoc, mul-le-mul-right, sub-add-cancel, mul-mod-left, add-comm}
+use native.Mathlib.Nat.{le-trans, le-of-eq, lt-of-lt-of-le, lt-of-le-of-lt, lt-of-not-le, lt-irrefl, mul-assoc, mul-le-mul-right}
+use native.Mathlib.Nat.{sub-add-cancel, mul-mod-left, add-comm}
 use native.Mathlib.Omega.{arith}
 use lib.Dec.{T, lit≤, leb, eqb, eqb→eq, not-T}
 use lib.IntN.{pos}
@@ -31,7 +32,8 @@ pow-lt-back i p h = lt-of-not-le (λ (g : p ≤ i). lt-irrefl (2 ^ i) (lt-of-lt-
 tail : (m z k : ℕ) → k ≤ z → m * 2 ^ z % 2 ^ k ≡ 0
 tail m z k h =
     let split : 2 ^ (z - k) * 2 ^ k ≡ 2 ^ z = sym (pow-add 2 (z - k) k) ∙ ap (λ (y : ℕ). 2 ^ y) (sub-add-cancel h) in
-    ap (λ (y : ℕ). m * y % 2 ^ k) (sym split) ∙ ap (λ (y : ℕ). y % 2 ^ k) (sym (mul-assoc m (2 ^ (z - k)) (2 ^ k))) ∙ mul-mod-left (m * 2 ^ (z - k)) (2 ^ k)
+    ap (λ (y : ℕ). m * y % 2 ^ k) (sym split) ∙ ap (λ (y : ℕ). y % 2 ^ k) (sym (mul-assoc m (2 ^ (z - k)) (2 ^ k)))
+    ∙ mul-mod-left (m * 2 ^ (z - k)) (2 ^ k)
 
 pub shift : (m : ℕ) → 0 < m → m < 2 ^ 53 → (9 ≤ leadingZeros 64 m) × Shift m (leadingZeros 64 m - 9)
 shift m M h = go (leadingZeros 64 m) (leading-top 64 m M (lt-of-lt-of-le h (lit≤ tt)))
@@ -78,10 +80,15 @@ unfolding ofFields
 fields-high f s zero t p n = absurd (lt-irrefl 0 p)
 fields-high f s (suc x) t p n =
     let e : suc x - 1 ≡ x = omega arith in
-    rw (is-false (eqb (suc x) (ones f)) (not-T (eqb (suc x) (ones f)) (λ h. n (eqb→eq (suc x) (ones f) h))), e, add-comm t (hid f)) (odd-sign (prec f) s (hid f + t) x (low f))
+    rw (
+      is-false (eqb (suc x) (ones f)) (not-T (eqb (suc x) (ones f)) (λ h. n (eqb→eq (suc x) (ones f) h))),
+      e,
+      add-comm t (hid f),
+    ) (odd-sign (prec f) s (hid f + t) x (low f))
 
 -- a value of m * 2 ^ j smallest ones, in normal form
-stands-by : (f : Format) (x : Float) (s : Bool) (m j : ℕ) (n : Parts) → HasValue x s (m * 2 ^ j) (2 ^ low f) → m < 2 ^ prec f → Normal s m (j + (1128 - low f)) n → Stands f n × Is x n
+stands-by : (f : Format) (x : Float) (s : Bool) (m j : ℕ) (n : Parts) → HasValue x s (m * 2 ^ j) (2 ^ low f) → m < 2 ^ prec f →
+    Normal s m (j + (1128 - low f)) n → Stands f n × Is x n
 stands-by f x s m j n v few N = (
   record { tidy = N .tidy; clear = N .clear (prec f) (few-digits f) few; least = omega (arith, N .least) },
   rw (N .sign, N .value) (same-value x s (m * 2 ^ j) (2 ^ low f) (m * 2 ^ (j + (1128 - low f))) (2 ^ 1128) (pow-pos (low f)) shifted v),
@@ -118,24 +125,31 @@ pub room-low : (f : Format) (t : ℕ) → 0 < t → t < hid f → Room t 0 (1128
 room-low binary32 t p g = record { some = p; few = omega arith; at-least = omega arith; most = omega arith }
 room-low binary64 t p g = record { some = p; few = omega arith; at-least = omega arith; most = omega arith }
 
-pub stands-high : (f : Format) (s : Bool) (x t : ℕ) (n : Parts) → 0 < x → (x ≡ ones f → ⊥) → t < hid f → Normal s (t + hid f) (x - 1 + (1128 - low f)) n → Stands f n × Is (ofFields f s x t) n
-stands-high f s x t n p o g N = stands-by f (ofFields f s x t) s (t + hid f) (x - 1) n (fields-high f s x t p o) (lt-of-lt-of-le (more t (hid f) g) (le-of-eq (sym (twice-hid f)))) N
+pub stands-high : (f : Format) (s : Bool) (x t : ℕ) (n : Parts) → 0 < x → (x ≡ ones f → ⊥) → t < hid f →
+    Normal s (t + hid f) (x - 1 + (1128 - low f)) n → Stands f n × Is (ofFields f s x t) n
+stands-high f s x t n p o g N =
+    stands-by f (ofFields f s x t) s (t + hid f) (x - 1) n (fields-high f s x t p o)
+    (lt-of-lt-of-le (more t (hid f) g) (le-of-eq (sym (twice-hid f)))) N
   where
     more : (t h : ℕ) → t < h → t + h < h + h
     more t h l = omega arith
 
-pub stands-low : (f : Format) (s : Bool) (x t : ℕ) (n : Parts) → x ≤ 0 → t < hid f → Normal s t (0 + (1128 - low f)) n → Stands f n × Is (ofFields f s x t) n
-stands-low f s x t n z g N = stands-by f (ofFields f s x t) s t 0 n (fields-low f s x t z) (lt-of-lt-of-le (more t (hid f) g) (le-of-eq (sym (twice-hid f)))) N
+pub stands-low : (f : Format) (s : Bool) (x t : ℕ) (n : Parts) → x ≤ 0 → t < hid f → Normal s t (0 + (1128 - low f)) n →
+    Stands f n × Is (ofFields f s x t) n
+stands-low f s x t n z g N =
+    stands-by f (ofFields f s x t) s t 0 n (fields-low f s x t z) (lt-of-lt-of-le (more t (hid f) g) (le-of-eq (sym (twice-hid f)))) N
   where
     more : (t h : ℕ) → t < h → t < h + h
     more t h l = omega arith
 
 -- ---- the fields of a pattern that is no NaN's
 
-pub fields-in : (f : Format) (x : Float) → T (fits f x) → T (not (isNan x)) → (toBits f x % top f / hid f ≤ ones f) × ((toBits f x % hid f < hid f) × (toBits f x % top f / hid f ≡ ones f → toBits f x % hid f ≡ 0))
+pub fields-in : (f : Format) (x : Float) → T (fits f x) → T (not (isNan x)) →
+    (toBits f x % top f / hid f ≤ ones f) × ((toBits f x % hid f < hid f) × (toBits f x % top f / hid f ≡ ones f → toBits f x % hid f ≡ 0))
 fields-in f x F n = go f (toBits f x) (plain-bits f x F n)
   where
-    go : (f : Format) (b : ℕ) → b % top f ≤ ones f * hid f → (b % top f / hid f ≤ ones f) × ((b % hid f < hid f) × (b % top f / hid f ≡ ones f → b % hid f ≡ 0))
+    go : (f : Format) (b : ℕ) → b % top f ≤ ones f * hid f →
+        (b % top f / hid f ≤ ones f) × ((b % hid f < hid f) × (b % top f / hid f ≡ ones f → b % hid f ≡ 0))
     go binary32 b h = omega arith
     go binary64 b h = omega arith
 

@@ -34,7 +34,8 @@ unfolding rootOf
 negative-root f nan a c A h = absurd h
 negative-root f (inf t) a c A h = absurd h
 negative-root f (fin false m e) a c A h = absurd (false≢true (h .0))
-negative-root f (fin true zero e) a c A h = absurd (lt-irrefl 0 (subst (λ (z : ℕ). 0 < z) (sym (h .1) ∙ ap (λ (z : ℕ). z * c) (zero-mul (up e)) ∙ zero-mul c) (mul-pos A (down-pos e))))
+negative-root f (fin true zero e) a c A h =
+    absurd (lt-irrefl 0 (subst (λ (z : ℕ). 0 < z) (sym (h .1) ∙ ap (λ (z : ℕ). z * c) (zero-mul (up e)) ∙ zero-mul c) (mul-pos A (down-pos e))))
 negative-root f (fin true (suc m) e) a c A h = refl
 
 -- ---- the patterns
@@ -105,10 +106,14 @@ pub root-below-zero : (f : Format) (n : Parts) → n .negative ≡ true → Stan
 root-below-zero f n b S =
     record {
       plain = tt;
-      is = λ x t. negative-root f x (n .significand * 2 ^ n .exponent) (2 ^ 1128) (mul-pos (lt-of-lt-of-le (pow-pos 54) (S .tidy .at-least)) (pow-pos (n .exponent))) (subst (λ (s : Bool). HasValue x s (n .significand * 2 ^ n .exponent) (2 ^ 1128)) b (t .1));
+      is =
+          λ x t. negative-root f x (n .significand * 2 ^ n .exponent) (2 ^ 1128)
+          (mul-pos (lt-of-lt-of-le (pow-pos 54) (S .tidy .at-least)) (pow-pos (n .exponent)))
+          (subst (λ (s : Bool). HasValue x s (n .significand * 2 ^ n .exponent) (2 ^ 1128)) b (t .1));
     }
 
-pub root-number : (f : Format) (n d : Parts) (r : ℕ) → n .negative ≡ false → Rooted f n d → Packed f d r → RootTo f (Number n) (Bits (cond false (top f) 0 + r))
+pub root-number : (f : Format) (n d : Parts) (r : ℕ) → n .negative ≡ false → Rooted f n d → Packed f d r →
+    RootTo f (Number n) (Bits (cond false (top f) 0 + r))
 root-number f n d r b R p =
     record {
       plain = plain f false r (p .most);

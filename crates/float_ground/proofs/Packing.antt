@@ -30,11 +30,13 @@ none m t h =
     let small : m < 2 ^ suc t = omega arith in
     let sum : m + (2 ^ t - 1) < 2 ^ suc t = omega arith in
     let plain : m + (2 ^ t - 1) + 0 % 2 ≡ m + (2 ^ t - 1) = omega arith in
-    sym (shift-closest m t) ∙ ap (λ (x : ℕ). (m + (2 ^ t - 1) + x % 2) / 2 ^ suc t) (div-eq-of-lt small) ∙ ap (λ (x : ℕ). x / 2 ^ suc t) plain ∙ div-eq-of-lt sum
+    sym (shift-closest m t) ∙ ap (λ (x : ℕ). (m + (2 ^ t - 1) + x % 2) / 2 ^ suc t) (div-eq-of-lt small)
+    ∙ ap (λ (x : ℕ). x / 2 ^ suc t) plain ∙ div-eq-of-lt sum
 
 -- ---- the numbers of a format
 
-spare : (f : Format) → (prec f + (55 - prec f) ≡ 55) × (prec f - 1 + (55 - prec f) ≡ 54) × (1128 - low f + low f ≡ 1128) × (55 - prec f ≤ 1128 - low f)
+spare : (f : Format) → (prec f + (55 - prec f) ≡ 55) × (prec f - 1 + (55 - prec f) ≡ 54) × (1128 - low f + low f ≡ 1128) ×
+    (55 - prec f ≤ 1128 - low f)
 spare binary32 = (refl, refl, refl, omega arith)
 spare binary64 = (refl, refl, refl, omega arith)
 
@@ -53,7 +55,8 @@ module _ (f : Format) (n : Parts) (N : Tidy n) where
   Rounded s = round f s (m * 2 ^ e) (2 ^ 1128)
 
   -- t digits are dropped, and what is left counts 2 ^ k smallest values
-  dropped : (k t : ℕ) → e + low f + t ≡ 1128 + k → 55 ≤ prec f + t → (k ≡ 0) ⊎ (prec f - 1 + t ≤ 54) → (s : Bool) → Rounded s ≡ units f s (closest m (2 ^ t)) k
+  dropped : (k t : ℕ) → e + low f + t ≡ 1128 + k → 55 ≤ prec f + t → (k ≡ 0) ⊎ (prec f - 1 + t ≤ 54) → (s : Bool) →
+      Rounded s ≡ units f s (closest m (2 ^ t)) k
   dropped k t E hi lo s = rounds f s m e 1128 k t E (lt-of-lt-of-le (N .under) (pow-mono hi)) (at lo)
     where
       at : (k ≡ 0) ⊎ (prec f - 1 + t ≤ 54) → (k ≡ 0) ⊎ (2 ^ (prec f - 1 + t) ≤ m)
@@ -65,9 +68,11 @@ module _ (f : Format) (n : Parts) (N : Tidy n) where
   digits-le t h = closest-le m (2 ^ t) (2 ^ prec f) (pow-pos t) (lt-of-lt-of-le (N .under) (le-trans (pow-mono h) (le-of-eq (pow-add 2 (prec f) t))))
 
   digits-ge : (t : ℕ) → prec f - 1 + t ≤ 54 → hid f ≤ closest m (2 ^ t)
-  digits-ge t h = closest-ge m (2 ^ t) (hid f) (pow-pos t) (le-trans (le-of-eq (sym (pow-add 2 (prec f - 1) t))) (le-trans (pow-mono h) (N .at-least)))
+  digits-ge t h =
+      closest-ge m (2 ^ t) (hid f) (pow-pos t) (le-trans (le-of-eq (sym (pow-add 2 (prec f - 1) t))) (le-trans (pow-mono h) (N .at-least)))
 
-  by : (k t : ℕ) → e + low f + t ≡ 1128 + k → 55 ≤ prec f + t → (k ≡ 0) ⊎ (prec f - 1 + t ≤ 54) → k * hid f + closest m (2 ^ t) ≤ ones f * hid f → Packed f n (k * hid f + closest m (2 ^ t))
+  by : (k t : ℕ) → e + low f + t ≡ 1128 + k → 55 ≤ prec f + t → (k ≡ 0) ⊎ (prec f - 1 + t ≤ 54) →
+      k * hid f + closest m (2 ^ t) ≤ ones f * hid f → Packed f n (k * hid f + closest m (2 ^ t))
   by k t E hi lo le = record { most = le; is = λ s. packs f s (closest m (2 ^ t)) k (digits-le t hi) (at lo) le ∙ sym (dropped k t E hi lo s) }
     where
       at : (k ≡ 0) ⊎ (prec f - 1 + t ≤ 54) → (k ≡ 0) ⊎ (hid f ≤ closest m (2 ^ t))
@@ -79,7 +84,8 @@ module _ (f : Format) (n : Parts) (N : Tidy n) where
 
   pub normal : first ≤ e → e - first + 1 < ones f → Packed f n ((e - first) * hid f + closest m (2 ^ (55 - prec f)))
   normal h g =
-      by (e - first) (55 - prec f) (sum e (low f) (1128 - low f) (55 - prec f) (spare f .2) (spare f .3) h) (le-of-eq (sym (spare f .0))) (inr (le-of-eq (spare f .1)))
+      by (e - first) (55 - prec f) (sum e (low f) (1128 - low f) (55 - prec f) (spare f .2) (spare f .3) h)
+      (le-of-eq (sym (spare f .0))) (inr (le-of-eq (spare f .1)))
       (room f (e - first) (closest m (2 ^ (55 - prec f))) g (digits-le (55 - prec f) (le-of-eq (sym (spare f .0)))))
     where
       sum : (e l a t : ℕ) → a + l ≡ 1128 → t ≤ a → a - t ≤ e → e + l + t ≡ 1128 + (e - (a - t))
@@ -126,7 +132,13 @@ module _ (f : Format) (n : Parts) (N : Tidy n) where
 
   -- 2 ^ (emax + 1) and above
   pub over : first ≤ e → ones f ≤ e - first + 1 → Packed f n (ones f * hid f)
-  over h g = record { most = le-refl (ones f * hid f); is = λ s. infinite f s ∙ sym (dropped (e - first) (55 - prec f) E (le-of-eq (sym (spare f .0))) (inr (le-of-eq (spare f .1))) s ∙ units-over f s (closest m (2 ^ (55 - prec f))) (e - first) big) }
+  over h g =
+      record {
+        most = le-refl (ones f * hid f);
+        is = λ s. infinite f s
+            ∙ sym (dropped (e - first) (55 - prec f) E (le-of-eq (sym (spare f .0))) (inr (le-of-eq (spare f .1))) s
+            ∙ units-over f s (closest m (2 ^ (55 - prec f))) (e - first) big);
+      }
     where
       E : e + low f + (55 - prec f) ≡ 1128 + (e - first)
       E = sum e (low f) (1128 - low f) (55 - prec f) (spare f .2) (spare f .3) h
@@ -139,4 +151,7 @@ module _ (f : Format) (n : Parts) (N : Tidy n) where
       many binary64 k h = omega arith
 
       big : 2 ^ (low f + suc (emax f)) ≤ closest m (2 ^ (55 - prec f)) * 2 ^ (e - first)
-      big = le-trans (pow-mono (many f (e - first) g)) (le-trans (le-of-eq (pow-add 2 (prec f - 1) (e - first))) (mul-le-mul-right (2 ^ (e - first)) (digits-ge (55 - prec f) (le-of-eq (spare f .1)))))
+      big =
+          le-trans (pow-mono (many f (e - first) g))
+          (le-trans (le-of-eq (pow-add 2 (prec f - 1) (e - first)))
+          (mul-le-mul-right (2 ^ (e - first)) (digits-ge (55 - prec f) (le-of-eq (spare f .1)))))

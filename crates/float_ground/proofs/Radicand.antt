@@ -25,7 +25,8 @@ pub record Radicand (f : Format) (m e n : ℕ) : Type 0 where
 pub radicand : (f : Format) (n : Parts) → Stands f n → Radicand f (n .significand) (n .exponent) (n .significand / 2 ^ (cut f - n .exponent % 2))
 radicand f n S = go f (n .significand) (n .exponent) (S .tidy .at-least) (S .tidy .under) (S .clear) (parity (n .exponent))
   where
-    go : (f : Format) (m e : ℕ) → 2 ^ 54 ≤ m → m < 2 ^ 55 → m % 2 ^ (55 - prec f) ≡ 0 → (e % 2 ≡ 0) ⊎ (e % 2 ≡ 1) → Radicand f m e (m / 2 ^ (cut f - e % 2))
+    go : (f : Format) (m e : ℕ) → 2 ^ 54 ≤ m → m < 2 ^ 55 → m % 2 ^ (55 - prec f) ≡ 0 → (e % 2 ≡ 0) ⊎ (e % 2 ≡ 1) →
+        Radicand f m e (m / 2 ^ (cut f - e % 2))
     go binary32 m e lo hi z (inl d) = record { at-least = rw d (omega arith); under = rw d (omega arith); exact = rw d (omega arith) }
     go binary32 m e lo hi z (inr d) = record { at-least = rw d (omega arith); under = rw d (omega arith); exact = rw d (omega arith) }
     go binary64 m e lo hi z (inl d) = record { at-least = rw d (omega arith); under = rw d (omega arith); exact = rw d (omega arith) }

@@ -68,7 +68,8 @@ Told q rest r = ((r ≡ 4 * q + 1) × (rest ≤ q)) ⊎ ((r ≡ 4 * q + 3) × (q
 -- r, rounded to the format f, is the root of the positive number that n stands for
 pub record Rooted (f : Format) (n r : Parts) : Type 0 where
   pub tidy : Tidy r
-  pub is : (x : Float) → HasValue x false (n .significand * 2 ^ n .exponent) (2 ^ 1128) → round f false (r .significand * 2 ^ r .exponent) (2 ^ 1128) ≡ rootOf f x
+  pub is : (x : Float) → HasValue x false (n .significand * 2 ^ n .exponent) (2 ^ 1128) →
+      round f false (r .significand * 2 ^ r .exponent) (2 ^ 1128) ≡ rootOf f x
 
 -- ---- a pattern, and what it is read as
 

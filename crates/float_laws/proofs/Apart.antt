@@ -36,4 +36,5 @@ apart (fin false m d) (fin true n c) p q h e =
     let z : 0 < m * up d * down c + n * up c * down d = not-zeros (m * up d * down c) (n * up c * down d) e in
     omega (arith, ltb-false 0 (n * up c * down d + m * up d * down c) h)
 apart (fin true m d) (fin false n c) p q h e = lt→ltb 0 (m * up d * down c + n * up c * down d) (not-zeros (m * up d * down c) (n * up c * down d) e)
-apart (fin true m d) (fin true n c) p q h e = one-sign (n * up c * down d) (m * up d * down c) h (λ z. differ (m * up d * down c) (n * up c * down d) e (sym z))
+apart (fin true m d) (fin true n c) p q h e =
+    one-sign (n * up c * down d) (m * up d * down c) h (λ z. differ (m * up d * down c) (n * up c * down d) e (sym z))

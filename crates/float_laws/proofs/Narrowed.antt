@@ -94,11 +94,15 @@ zeros-equal false true = tt
 zeros-equal false false = tt
 
 from-zero : (f : Format) (a c : ℕ) → 0 < c → T (le (fin false 0 (pos 0)) (round f false a c))
-from-zero f a c C = subst (λ (z : Float). T (le z (round f false a c))) (zero-is f false) (round-mono f 0 1 a c (zero-lt-suc 0) C (le-trans (le-of-eq (zero-mul c)) zero-le))
+from-zero f a c C =
+    subst (λ (z : Float). T (le z (round f false a c))) (zero-is f false)
+    (round-mono f 0 1 a c (zero-lt-suc 0) C (le-trans (le-of-eq (zero-mul c)) zero-le))
 
 to-zero : (f : Format) (a c : ℕ) → 0 < c → T (le (round f true a c) (fin true 0 (pos 0)))
 unfolding neg
-to-zero f a c C = subst (λ (z : Float). T (le z (fin true 0 (pos 0)))) (sym (neg-round f false a c)) (le-neg (round f false a c) (fin false 0 (pos 0)) (from-zero f a c C))
+to-zero f a c C =
+    subst (λ (z : Float). T (le z (fin true 0 (pos 0)))) (sym (neg-round f false a c))
+    (le-neg (round f false a c) (fin false 0 (pos 0)) (from-zero f a c C))
 
 none : (f : Format) (s : Bool) (a c : ℕ) → 0 < c → a ≡ 0 → round f s a c ≡ fin s 0 (pos 0)
 none f s a c C e = ap (λ (z : ℕ). round f s z c) e ∙ round-same f s 0 c 0 1 C (zero-lt-suc 0) (zero-mul 1 ∙ sym (zero-mul c)) ∙ zero-is f s
@@ -109,7 +113,8 @@ round-order f false true M p N q P Q h = rw (none f false M p P (h .0), none f t
 round-order f true false M p N q P Q h =
     le-trans-float (round f true M p) (fin true 0 (pos 0)) (round f false N q) (to-zero f M p P)
     (le-trans-float (fin true 0 (pos 0)) (fin false 0 (pos 0)) (round f false N q) (zeros-equal true false) (from-zero f N q Q))
-round-order f true true M p N q P Q h = rw (neg-round f false M p, neg-round f false N q) (le-neg (round f false M p) (round f false N q) (round-mono f N q M p Q P h))
+round-order f true true M p N q P Q h =
+    rw (neg-round f false M p, neg-round f false N q) (le-neg (round f false M p) (round f false N q) (round-mono f N q M p Q P h))
 
 not-nan : (x y : Float) → T (le x y) → T (not (isNan x)) × T (not (isNan y))
 unfolding isNan le
@@ -157,4 +162,5 @@ round-keeps-order f (inf false) (fin t n d) h = absurd (no-end t n d h)
 round-keeps-order f (fin s m e) nan h = absurd (not-nan (fin s m e) nan h .1)
 round-keeps-order f (fin s m e) (inf true) h = absurd (no-start s m e h)
 round-keeps-order f (fin s m e) (inf false) h = highest (round f s (m * up e) (down e)) (number f s (m * up e) (down e) (down-pos e))
-round-keeps-order f (fin s m e) (fin t n d) h = round-order f s t (m * up e) (down e) (n * up d) (down d) (down-pos e) (down-pos d) (le→ s m e t n d h)
+round-keeps-order f (fin s m e) (fin t n d) h =
+    round-order f s t (m * up e) (down e) (n * up d) (down d) (down-pos e) (down-pos d) (le→ s m e t n d h)

@@ -3,7 +3,11 @@ use mathlib.Core.Path.{_≡_, sym, ap, _∙_, subst}
 use mathlib.Core.Logic.{_⊎_, inl, inr}
 use mathlib.Core.Bool.{Bool, true, false, not, cond}
 use Prim.Native.Nat.{ℕ, zero, suc, _+_, _-_, _*_, _/_, _%_, _^_, _≤_, _<_, zero-le}
-use native.Mathlib.Nat.{le-refl, le-trans, le-of-eq, le-of-lt, le-of-suc-le-suc, lt-of-lt-of-le, lt-of-le-of-lt, lt-of-not-le, not-le-of-lt, lt-irrefl, zero-lt-suc, mul-one, mul-comm, mul-assoc, mul-mul-mul-comm, mul-pos, mul-le-mul, mul-le-mul-left, mul-le-mul-right, mul-lt-mul-of-pos-right, lt-of-mul-lt-mul-right, le-of-mul-le-mul-right, add-le-add, add-mul, div-mul-le-self, div-add-mod', mod-lt, le-div-iff-mul-le, suc-mul, mul-left-comm, pow-succ', add-comm, one-mul, le-add-right}
+use native.Mathlib.Nat.{le-refl, le-trans, le-of-eq, le-of-lt, le-of-suc-le-suc, lt-of-lt-of-le, lt-of-le-of-lt, lt-of-not-le, not-le-of-lt}
+use native.Mathlib.Nat.{lt-irrefl, zero-lt-suc, mul-one, mul-comm, mul-assoc, mul-mul-mul-comm, mul-pos, mul-le-mul, mul-le-mul-left}
+use native.Mathlib.Nat.{mul-le-mul-right, mul-lt-mul-of-pos-right, lt-of-mul-lt-mul-right, le-of-mul-le-mul-right, add-le-add, add-mul}
+use native.Mathlib.Nat.{div-mul-le-self, div-add-mod', mod-lt, le-div-iff-mul-le, suc-mul, mul-left-comm, pow-succ', add-comm, one-mul}
+use native.Mathlib.Nat.{le-add-right}
 use native.Mathlib.Decide.{decLe}
 use native.Mathlib.Omega.{arith}
 use lib.Dec.{T, leb, leb→le, nleb→lt}
@@ -51,7 +55,8 @@ gap-below p m i q k P h g l = go (decLe k i)
     go : Dec (k ≤ i) → m * 2 ^ i ≤ q * 2 ^ k
     go (yes a) =
         let e = split-at m i k a in
-        le-trans (le-of-eq e) (mul-le-mul-right (2 ^ k) (le-of-suc-le-suc (lt-of-mul-lt-mul-right (2 ^ k) (subst (λ (x : ℕ). x < suc q * 2 ^ k) e l))))
+        le-trans (le-of-eq e) (mul-le-mul-right (2 ^ k)
+        (le-of-suc-le-suc (lt-of-mul-lt-mul-right (2 ^ k) (subst (λ (x : ℕ). x < suc q * 2 ^ k) e l))))
     go (no b) = le-of-lt (no-lower p m i q k P h g (lt-of-not-le b))
 
 -- ---- an odd number times a power of two has no fewer digits by another power
@@ -67,10 +72,16 @@ odd-part m i o j e h = go (decLe i j)
         two-of x y e = omega arith
 
     go : Dec (i ≤ j) → (i ≤ j) × (o ≤ m)
-    go (yes a) = (a, le-trans (le-trans (le-of-eq (sym (mul-one o))) (mul-le-mul-left o (pow-pos (j - i)))) (le-of-mul-le-mul-right (le-of-eq (sym (split-at o j i a) ∙ sym e)) (pow-pos i)))
+    go (yes a) = (
+      a,
+      le-trans (le-trans (le-of-eq (sym (mul-one o))) (mul-le-mul-left o (pow-pos (j - i))))
+          (le-of-mul-le-mul-right (le-of-eq (sym (split-at o j i a) ∙ sym e)) (pow-pos i)),
+    )
     go (no b) =
         let l : j < i = lt-of-not-le b in
-        let same : m * 2 ^ (i - j) ≡ o = le-antisymm′ (le-of-mul-le-mul-right (le-of-eq (sym (split-at m i j (le-of-lt l)) ∙ e)) (pow-pos j)) (le-of-mul-le-mul-right (le-of-eq (sym e ∙ split-at m i j (le-of-lt l))) (pow-pos j)) in
+        let same : m * 2 ^ (i - j) ≡ o = le-antisymm′
+        (le-of-mul-le-mul-right (le-of-eq (sym (split-at m i j (le-of-lt l)) ∙ e)) (pow-pos j))
+        (le-of-mul-le-mul-right (le-of-eq (sym e ∙ split-at m i j (le-of-lt l))) (pow-pos j)) in
         let z : o % 2 ≡ 0 = ap (λ (x : ℕ). x % 2) (sym same) ∙ even m (i - j) (sub-pos i j l) in
         absurd (differ (o % 2) h z)
       where
@@ -140,7 +151,9 @@ module _ (f : Format) (m i : ℕ) (some : 0 < m) (few : m < 2 ^ prec f) (fit : m
 
       go : Dec (size w ≤ prec f) → Full (prec f) q k
       go (yes a) = inl (none (size w) (prec f) a)
-      go (no b) = inr (le-div-iff-mul-le (pow-pos k) .1 (le-trans (le-of-eq (sym (pow-add 2 (prec f - 1) k))) (size-reaches w (prec f - 1 + k) (inside (size w) (prec f) (lt-of-not-le b) P))))
+      go (no b) =
+          inr (le-div-iff-mul-le (pow-pos k) .1
+          (le-trans (le-of-eq (sym (pow-add 2 (prec f - 1) k))) (size-reaches w (prec f - 1 + k) (inside (size w) (prec f) (lt-of-not-le b) P))))
 
   q-lt : q < 2 ^ prec f
   q-lt = kept-lt (prec f) w
@@ -209,7 +222,8 @@ module _ (f : Format) (m i : ℕ) (some : 0 < m) (few : m < 2 ^ prec f) (fit : m
 
   -- where q is taken, 4 N is at most the square of q and a half, doubled
   low-below : (v : ℕ) → Below q v
-  low-below v l = lt-of-lt-of-le (square-lt (v + q * K) (q * K + q * K) (omega arith)) (le-trans (le-of-eq (four-of (q * K))) (mul-le-mul-left 4 at-least))
+  low-below v l =
+      lt-of-lt-of-le (square-lt (v + q * K) (q * K + q * K) (omega arith)) (le-trans (le-of-eq (four-of (q * K))) (mul-le-mul-left 4 at-least))
 
   low-above : (n j : ℕ) → n < 2 ^ prec f → 4 * N ≤ odd → Above q (n * 2 ^ j)
   low-above n j h t l =
@@ -224,11 +238,14 @@ module _ (f : Format) (m i : ℕ) (some : 0 < m) (few : m < 2 ^ prec f) (fit : m
 
   high-below : (n j : ℕ) → n < 2 ^ prec f → odd < 4 * N → Below (suc q) (n * 2 ^ j)
   high-below n j h t l =
-      let s : n * 2 ^ j + suc q * K ≤ (q + q + 1) * K = le-trans (add-le-add (gap-below (prec f) n j q k P h full l) (le-refl (suc q * K))) (le-of-eq odd-of) in
+      let s : n * 2 ^ j + suc q * K ≤ (q + q + 1) * K = le-trans
+      (add-le-add (gap-below (prec f) n j q k P h full l) (le-refl (suc q * K))) (le-of-eq odd-of) in
       lt-of-le-of-lt (mul-le-mul s s) t
 
   high-above : (v : ℕ) → Above (suc q) v
-  high-above v l = lt-of-lt-of-le (mul-four below) (le-trans (le-of-eq (sym (four-of (suc q * K)))) (le-of-lt (square-lt (suc q * K + suc q * K) (v + suc q * K) (omega arith))))
+  high-above v l =
+      lt-of-lt-of-le (mul-four below) (le-trans (le-of-eq (sym (four-of (suc q * K))))
+      (le-of-lt (square-lt (suc q * K + suc q * K) (v + suc q * K) (omega arith))))
     where
       mul-four : {a b : ℕ} → a < b → 4 * a < 4 * b
       mul-four {a} {b} h = omega arith
@@ -250,7 +267,10 @@ module _ (f : Format) (m i : ℕ) (some : 0 < m) (few : m < 2 ^ prec f) (fit : m
       go false = zero-lt-suc q
 
   pub c-under : c * K < 2 ^ (low f + suc (emax f))
-  c-under = lt-of-le-of-lt (go (leb (4 * N) odd)) (lt-of-lt-of-le (twice (2 ^ (low f + emax f)) w-small) (le-of-eq (sym (pow-add 2 1 (low f + emax f)) ∙ ap (λ (x : ℕ). 2 ^ x) (next (low f) (emax f)))))
+  c-under =
+      lt-of-le-of-lt (go (leb (4 * N) odd))
+      (lt-of-lt-of-le (twice (2 ^ (low f + emax f)) w-small)
+      (le-of-eq (sym (pow-add 2 1 (low f + emax f)) ∙ ap (λ (x : ℕ). 2 ^ x) (next (low f) (emax f)))))
     where
       twice : (b : ℕ) → w < b → w + w < 2 * b
       twice b h = omega arith
@@ -268,7 +288,8 @@ module _ (f : Format) (m i : ℕ) (some : 0 < m) (few : m < 2 ^ prec f) (fit : m
       square : N < 2 ^ (low f + emax f) * 2 ^ (low f + emax f)
       square =
           lt-of-lt-of-le (mul-lt-mul-of-pos-right fit (pow-pos (low f)))
-          (le-trans (le-of-eq (sym (pow-add 2 (low f + suc (emax f)) (low f)))) (le-trans (pow-mono (far f)) (le-of-eq (pow-add 2 (low f + emax f) (low f + emax f)))))
+          (le-trans (le-of-eq (sym (pow-add 2 (low f + suc (emax f)) (low f))))
+          (le-trans (pow-mono (far f)) (le-of-eq (pow-add 2 (low f + emax f) (low f + emax f)))))
         where
           far : (f : Format) → low f + suc (emax f) + low f ≤ low f + emax f + (low f + emax f)
           far binary32 = omega arith

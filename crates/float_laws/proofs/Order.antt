@@ -12,7 +12,8 @@ use lib.Ieee.Fits.{down-pos}
 use lib.Ieee.Scale.{finite}
 use lib.Ieee.Positive.{through}
 use Rattle.float_laws.proofs.Rounding.{Cmp, cmp}
-use Rattle.float_laws.proofs.Sides.{Side, less, same, more, apart, notMore, notLess, notApart, sideOf, signed, ranked, versus, le-is, ge-is, ordered-versus}
+use Rattle.float_laws.proofs.Sides.{Side, less, same, more, apart, notMore, notLess, notApart, sideOf, signed, ranked, versus, le-is}
+use Rattle.float_laws.proofs.Sides.{ge-is, ordered-versus}
 
 -- ---- Booleans
 
@@ -121,7 +122,8 @@ trans (fin s m e) (fin t n d) (inf false) h k = tt
 trans (fin s m e) (fin t n d) (fin u o f) h k =
     →ranked s u (m * up e) (down e) (o * up f) (down f)
     (through-signs s t u (m * up e) (down e) (n * up d) (down d) (o * up f) (down f) (down-pos e) (down-pos d) (down-pos f)
-    (ranked→ s t (m * up e) (down e) (n * up d) (down d) (down-pos e) (down-pos d) h) (ranked→ t u (n * up d) (down d) (o * up f) (down f) (down-pos d) (down-pos f) k))
+    (ranked→ s t (m * up e) (down e) (n * up d) (down d) (down-pos e) (down-pos d) h)
+    (ranked→ t u (n * up d) (down d) (o * up f) (down f) (down-pos d) (down-pos f) k))
 
 squeezed : (x y z : Float) → T (finite x) → T (finite z) → Le x y → Le y z → T (finite y)
 squeezed nan y z p q h k = absurd p

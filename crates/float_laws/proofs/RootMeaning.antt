@@ -2,7 +2,9 @@
 use mathlib.Core.Path.{_≡_, refl, sym, ap, _∙_, subst}
 use mathlib.Core.Bool.{Bool, true, false, cond}
 use Prim.Native.Nat.{ℕ, zero, suc, _+_, _-_, _*_, _/_, _^_, _≤_, _<_}
-use native.Mathlib.Nat.{le-of-lt, lt-of-lt-of-le, lt-of-le-of-lt, lt-irrefl, le-refl, le-antisymm, lt-of-not-le, zero-lt-suc, mul-comm, mul-assoc, mul-right-comm, mul-mul-mul-comm, mul-pos, mul-lt-mul-of-pos-right, lt-of-mul-lt-mul-right, add-mul, add-comm}
+use native.Mathlib.Nat.{le-of-lt, lt-of-lt-of-le, lt-of-le-of-lt, lt-irrefl, le-refl, le-antisymm, lt-of-not-le, zero-lt-suc, mul-comm}
+use native.Mathlib.Nat.{mul-assoc, mul-right-comm, mul-mul-mul-comm, mul-pos, mul-lt-mul-of-pos-right, lt-of-mul-lt-mul-right, add-mul}
+use native.Mathlib.Nat.{add-comm}
 use native.Mathlib.Decide.{decLe}
 use lib.IntN.{ℤ}
 use lib.Dec.{T, ltb, leb, ltb→lt, lt→ltb}
@@ -20,7 +22,8 @@ use Rattle.float_laws.proofs.Values.{Counted, count-of, value-unique, s
 -- ---- from whole numbers of units to the floats' own fractions
 
 -- v and w count y and r in units of 1 / L, and n counts x in units of 1 / L ^ 2
-module _ (L ny dy nr dr v w nx dx n : ℕ) (ey : ny * L ≡ v * dy) (er : nr * L ≡ w * dr) (ex : nx * (L * L) ≡ n * dx) (DX : 0 < dx) (DY : 0 < dy) (DR : 0 < dr) where
+module _ (L ny dy nr dr v w nx dx n : ℕ) (ey : ny * L ≡ v * dy) (er : nr * L ≡ w * dr) (ex : nx * (L * L) ≡ n * dx)
+    (DX : 0 < dx) (DY : 0 < dy) (DR : 0 < dr) where
   abbrev D : ℕ
   D = dy * dr * (dy * dr)
 
@@ -28,13 +31,15 @@ module _ (L ny dy nr dr v w nx dx n : ℕ) (ey : ny * L ≡ v * dy) (er : nr * L
   sum-is =
       add-mul (ny * dr) (nr * dy) L
       ∙ ap (λ (x : ℕ). x + nr * dy * L) (mul-right-comm ny dr L ∙ ap (λ (x : ℕ). x * dr) ey ∙ mul-assoc v dy dr)
-      ∙ ap (λ (x : ℕ). v * (dy * dr) + x) (mul-right-comm nr dy L ∙ ap (λ (x : ℕ). x * dy) er ∙ mul-assoc w dr dy ∙ ap (λ (x : ℕ). w * x) (mul-comm dr dy))
+      ∙ ap (λ (x : ℕ). v * (dy * dr) + x) (mul-right-comm nr dy L ∙ ap (λ (x : ℕ). x * dy) er ∙ mul-assoc w dr dy
+      ∙ ap (λ (x : ℕ). w * x) (mul-comm dr dy))
       ∙ sym (add-mul v w (dy * dr))
 
   left-is : (ny * dr + nr * dy) * (ny * dr + nr * dy) * dx * (L * L) ≡ (v + w) * (v + w) * (D * dx)
   left-is =
       mul-right-comm ((ny * dr + nr * dy) * (ny * dr + nr * dy)) dx (L * L)
-      ∙ ap (λ (x : ℕ). x * dx) (mul-mul-mul-comm (ny * dr + nr * dy) (ny * dr + nr * dy) L L ∙ ap (λ (x : ℕ). x * x) sum-is ∙ mul-mul-mul-comm (v + w) (dy * dr) (v + w) (dy * dr))
+      ∙ ap (λ (x : ℕ). x * dx) (mul-mul-mul-comm (ny * dr + nr * dy) (ny * dr + nr * dy) L L ∙ ap (λ (x : ℕ). x * x) sum-is
+      ∙ mul-mul-mul-comm (v + w) (dy * dr) (v + w) (dy * dr))
       ∙ mul-assoc ((v + w) * (v + w)) D dx
 
   right-is : 4 * nx * D * (L * L) ≡ 4 * n * (D * dx)
@@ -78,7 +83,8 @@ counts-lt : (L nx dx ny dy v w : ℕ) → 0 < L → nx * L ≡ v * dx → ny * L
 counts-lt L nx dx ny dy v w P ex ey h =
     lt-of-mul-lt-mul-right (dx * dy)
     (subst (λ (z : ℕ). z < w * (dx * dy)) (mul-right-comm nx dy L ∙ ap (λ (z : ℕ). z * dy) ex ∙ mul-assoc v dx dy)
-    (subst (λ (z : ℕ). nx * dy * L < z) (mul-right-comm ny dx L ∙ ap (λ (z : ℕ). z * dx) ey ∙ mul-assoc w dy dx ∙ ap (λ (z : ℕ). w * z) (mul-comm dy dx)) (mul-lt-mul-of-pos-right h P)))
+    (subst (λ (z : ℕ). nx * dy * L < z) (mul-right-comm ny dx L ∙ ap (λ (z : ℕ). z * dx) ey ∙ mul-assoc w dy dx
+    ∙ ap (λ (z : ℕ). w * z) (mul-comm dy dx)) (mul-lt-mul-of-pos-right h P)))
 
 counted-finite : (y : Float) → T (counted y) → T (finite y)
 counted-finite nan c = c
@@ -109,13 +115,17 @@ module _ (f : Format) (m : ℕ) (e : ℤ) (F : T (fits f (fin false (suc m) e)))
   L-pos = pow-pos (low f)
 
   some : 0 < z .m
-  some = first-pos (z .m) (2 ^ z .i) (first-pos (z .m * 2 ^ z .i) (down e) (subst (λ (a : ℕ). 0 < a) (z .value) (mul-pos (mul-pos (zero-lt-suc m) (up-pos e)) L-pos)))
+  some =
+      first-pos (z .m) (2 ^ z .i) (first-pos (z .m * 2 ^ z .i) (down e)
+      (subst (λ (a : ℕ). 0 < a) (z .value) (mul-pos (mul-pos (zero-lt-suc m) (up-pos e)) L-pos)))
 
   abbrev n : ℕ
   n = z .m * 2 ^ z .i * 2 ^ low f
 
   root-is : rootOf f x ≡ rootAt f n
-  root-is = root-of f x (z .m * 2 ^ z .i) (2 ^ low f) n (mul-pos some (pow-pos (z .i))) L-pos (refl, z .value) (sym (mul-assoc (z .m * 2 ^ z .i) (2 ^ low f) (2 ^ low f)))
+  root-is =
+      root-of f x (z .m * 2 ^ z .i) (2 ^ low f) n (mul-pos some (pow-pos (z .i))) L-pos (refl, z .value)
+      (sym (mul-assoc (z .m * 2 ^ z .i) (2 ^ low f) (2 ^ low f)))
 
   abbrev c : ℕ
   c = near.c f (z .m) (z .i) some (z .few) (z .under)
@@ -131,7 +141,9 @@ module _ (f : Format) (m : ℕ) (e : ℤ) (F : T (fits f (fin false (suc m) e)))
   r = rootOf f x
 
   r-value : HasValue r false (c * 2 ^ k) (2 ^ low f)
-  r-value = subst (λ (y : Float). HasValue y false (c * 2 ^ k) (2 ^ low f)) (sym (root-is ∙ at-is)) (units-val f false c k (near.c-under f (z .m) (z .i) some (z .few) (z .under)))
+  r-value =
+      subst (λ (y : Float). HasValue y false (c * 2 ^ k) (2 ^ low f)) (sym (root-is ∙ at-is))
+      (units-val f false c k (near.c-under f (z .m) (z .i) some (z .few) (z .under)))
 
   r-positive : T (positive r)
   r-positive = positive-of-value r (c * 2 ^ k) (2 ^ low f) r-value (mul-pos (near.c-pos f (z .m) (z .i) some (z .few) (z .under)) (pow-pos k))
@@ -140,7 +152,9 @@ module _ (f : Format) (m : ℕ) (e : ℤ) (F : T (fits f (fin false (suc m) e)))
   er = value→cross r (c * 2 ^ k) (2 ^ low f) r-value
 
   ex : num x * (2 ^ low f * 2 ^ low f) ≡ n * den x
-  ex = sym (mul-assoc (num x) (2 ^ low f) (2 ^ low f)) ∙ ap (λ (y : ℕ). y * 2 ^ low f) (z .value) ∙ mul-right-comm (z .m * 2 ^ z .i) (den x) (2 ^ low f)
+  ex =
+      sym (mul-assoc (num x) (2 ^ low f) (2 ^ low f)) ∙ ap (λ (y : ℕ). y * 2 ^ low f) (z .value)
+      ∙ mul-right-comm (z .m * 2 ^ z .i) (den x) (2 ^ low f)
 
   pub strict-root : StrictRoot f x r
   strict-root =
@@ -148,14 +162,18 @@ module _ (f : Format) (m : ℕ) (e : ℤ) (F : T (fits f (fin false (suc m) e)))
         above-zero = r-positive;
         from-below = λ y G p l.
             let o = count-of f y G (counted-finite y p) in
-            to-below (2 ^ low f) (num y) (den y) (num r) (den r) (o .m * 2 ^ o .i) (c * 2 ^ k) (num x) (den x) n (o .value) er ex (den-pos x) (den-pos y) (den-pos r)
+            to-below (2 ^ low f) (num y) (den y) (num r) (den r) (o .m * 2 ^ o .i) (c * 2 ^ k) (num x) (den x) n
+            (o .value) er ex (den-pos x) (den-pos y) (den-pos r)
             (near.strict f (z .m) (z .i) some (z .few) (z .under) (o .m) (o .i) (o .few) .0
-            (counts-lt (2 ^ low f) (num y) (den y) (num r) (den r) (o .m * 2 ^ o .i) (c * 2 ^ k) L-pos (o .value) er (lt→cross y r p (positive-counted r r-positive) l)));
+            (counts-lt (2 ^ low f) (num y) (den y) (num r) (den r) (o .m * 2 ^ o .i) (c * 2 ^ k) L-pos (o .value) er
+            (lt→cross y r p (positive-counted r r-positive) l)));
         from-above = λ y G p l.
             let o = count-of f y G (counted-finite y p) in
-            to-above (2 ^ low f) (num y) (den y) (num r) (den r) (o .m * 2 ^ o .i) (c * 2 ^ k) (num x) (den x) n (o .value) er ex (den-pos x) (den-pos y) (den-pos r)
+            to-above (2 ^ low f) (num y) (den y) (num r) (den r) (o .m * 2 ^ o .i) (c * 2 ^ k) (num x) (den x) n
+            (o .value) er ex (den-pos x) (den-pos y) (den-pos r)
             (near.strict f (z .m) (z .i) some (z .few) (z .under) (o .m) (o .i) (o .few) .1
-            (counts-lt (2 ^ low f) (num r) (den r) (num y) (den y) (c * 2 ^ k) (o .m * 2 ^ o .i) L-pos er (o .value) (lt→cross r y (positive-counted r r-positive) p l)));
+            (counts-lt (2 ^ low f) (num r) (den r) (num y) (den y) (c * 2 ^ k) (o .m * 2 ^ o .i) L-pos er (o .value)
+            (lt→cross r y (positive-counted r r-positive) p l)));
       }
 
 -- the root is a value of the format
@@ -173,7 +191,8 @@ rootAt-fits f n =
     let w = wholeRoot (size n) n in
     let k = size w - prec f in
     let q = w / 2 ^ k in
-    units-fits f false (cond (leb (4 * n) ((q + q + 1) * 2 ^ k * ((q + q + 1) * 2 ^ k))) q (suc q)) k (go (leb (4 * n) ((q + q + 1) * 2 ^ k * ((q + q + 1) * 2 ^ k))) q (kept-lt (prec f) w))
+    units-fits f false (cond (leb (4 * n) ((q + q + 1) * 2 ^ k * ((q + q + 1) * 2 ^ k))) q (suc q)) k
+    (go (leb (4 * n) ((q + q + 1) * 2 ^ k * ((q + q + 1) * 2 ^ k))) q (kept-lt (prec f) w))
   where
     go : (b : Bool) (q : ℕ) → q < 2 ^ prec f → cond b q (suc q) ≤ 2 ^ prec f
     go true q h = le-of-lt h
@@ -222,10 +241,12 @@ scale-comm : (y r : Float) → scale y r ≡ scale r y
 scale-comm y r = ap (λ (a : ℕ). a * a) (mul-comm (den y) (den r))
 
 -- two positive values of which neither is below the other
-same-positive : (f : Format) (r s : Float) → T (fits f r) → T (fits f s) → T (positive r) → T (positive s) → (T (lt r s) → ⊥) → (T (lt s r) → ⊥) → r ≡ s
+same-positive : (f : Format) (r s : Float) → T (fits f r) → T (fits f s) → T (positive r) → T (positive s) → (T (lt r s) → ⊥) →
+    (T (lt s r) → ⊥) → r ≡ s
 same-positive f r s F G p q a b =
     value-unique f r s false (num r) (den r) F G (den-pos r) (own-value r p)
-    (same-value s false (num s) (den s) (num r) (den r) (den-pos s) (le-antisymm (meet (λ h. a (cross→lt r s p q h))) (meet (λ h. b (cross→lt s r q p h)))) (own-value s q))
+    (same-value s false (num s) (den s) (num r) (den r) (den-pos s)
+    (le-antisymm (meet (λ h. a (cross→lt r s p q h))) (meet (λ h. b (cross→lt s r q p h)))) (own-value s q))
   where
     meet : {u v : ℕ} → (u < v → ⊥) → v ≤ u
     meet {u} {v} h = elim (decLe v u) [ yes l ↦ l | no g ↦ absurd (h (lt-of-not-le g)) ]

@@ -2,7 +2,9 @@
 use mathlib.Core.Path.{_≡_, refl, sym, ap, _∙_, subst}
 use mathlib.Core.Logic.{_⊎_, inl, inr}
 use Prim.Native.Nat.{ℕ, zero, suc, _+_, _-_, _*_, _/_, _%_, _^_, _≤_, _<_, compare, Ordering, Ordering·lt, Ordering·eq, Ordering·gt}
-use native.Mathlib.Nat.{le-trans, le-of-eq, le-of-suc-le-suc, le-antisymm, lt-of-lt-of-le, lt-of-not-le, not-le-of-lt, zero-lt-suc, one-mul, mul-assoc, mul-pos, mul-le-mul-right, div-eq-of-lt, div-lt-iff-lt-mul, le-div-iff-mul-le, div-add-mod', mod-lt, pow-succ', mul-add-div-right}
+use native.Mathlib.Nat.{le-trans, le-of-eq, le-of-suc-le-suc, le-antisymm, lt-of-lt-of-le, lt-of-not-le, not-le-of-lt, zero-lt-suc, one-mul}
+use native.Mathlib.Nat.{mul-assoc, mul-pos, mul-le-mul-right, div-eq-of-lt, div-lt-iff-lt-mul, le-div-iff-mul-le, div-add-mod', mod-lt}
+use native.Mathlib.Nat.{pow-succ', mul-add-div-right}
 use native.Mathlib.Omega.{arith}
 use native.Mathlib.Numerals.{one-add}
 use mathlib.Core.Bool.{Bool, not}
@@ -21,7 +23,9 @@ pub size-gt : (n j : ℕ) → 2 ^ j ≤ n → j < size n
 size-gt n j h = lt-of-not-le (λ (g : size n ≤ j). not-le-of-lt (lt-of-lt-of-le (size-lt n) (pow-mono g)) h)
 
 pub drop-is : (p n den k : ℕ) → 0 < p → 0 < den → n < 2 ^ (p + k) * den → (k ≡ 0) ⊎ (2 ^ (p - 1 + k) * den ≤ n) → size (n / den) - p ≡ k
-drop-is p n den k P D hi lo = go (size (n / den)) (size-le (n / den) (p + k) (div-lt-iff-lt-mul D .1 hi)) lo (λ (h : 2 ^ (p - 1 + k) * den ≤ n). size-gt (n / den) (p - 1 + k) (le-div-iff-mul-le D .1 h))
+drop-is p n den k P D hi lo =
+    go (size (n / den)) (size-le (n / den) (p + k) (div-lt-iff-lt-mul D .1 hi)) lo
+    (λ (h : 2 ^ (p - 1 + k) * den ≤ n). size-gt (n / den) (p - 1 + k) (le-div-iff-mul-le D .1 h))
   where
     at-zero : (z : ℕ) → z ≤ p + k → k ≡ 0 → z - p ≡ k
     at-zero z h e = omega arith
@@ -33,27 +37,35 @@ drop-is p n den k P D hi lo = go (size (n / den)) (size-le (n / den) (p + k) (di
     go z h (inl e) g = at-zero z h e
     go z h (inr l) g = above z h (g l)
 
-pub round-by : (f : Format) (s : Bool) (a c k : ℕ) → 0 < c → a * 2 ^ low f < 2 ^ (prec f + k) * c → (k ≡ 0) ⊎ (2 ^ (prec f - 1 + k) * c ≤ a * 2 ^ low f)
+pub round-by : (f : Format) (s : Bool) (a c k : ℕ) → 0 < c → a * 2 ^ low f < 2 ^ (prec f + k) * c →
+    (k ≡ 0) ⊎ (2 ^ (prec f - 1 + k) * c ≤ a * 2 ^ low f)
     → round f s a c ≡ units f s (closest (a * 2 ^ low f) (c * 2 ^ k)) k
-round-by f s a c k C hi lo = round-is f s a c ∙ ap (λ (z : ℕ). core f s (a * 2 ^ low f) c z) (drop-is (prec f) (a * 2 ^ low f) c k (two-le-pos (prec f) (two f)) C hi lo)
+round-by f s a c k C hi lo =
+    round-is f s a c ∙ ap (λ (z : ℕ). core f s (a * 2 ^ low f) c z) (drop-is (prec f) (a * 2 ^ low f) c k (two-le-pos (prec f) (two f)) C hi lo)
 
 pub units-over : (f : Format) (s : Bool) (q k : ℕ) → 2 ^ (low f + suc (emax f)) ≤ q * 2 ^ k → units f s q k ≡ inf s
 unfolding units
-units-over f s q k h = cond-no (ltb (q * 2 ^ k) (2 ^ (low f + suc (emax f)))) (odd (suc (prec f)) s q k (low f)) (inf s) (le→nltb (q * 2 ^ k) (2 ^ (low f + suc (emax f))) h)
+units-over f s q k h =
+    cond-no (ltb (q * 2 ^ k) (2 ^ (low f + suc (emax f)))) (odd (suc (prec f)) s q k (low f)) (inf s)
+    (le→nltb (q * 2 ^ k) (2 ^ (low f + suc (emax f))) h)
 
 -- ---- M * 2 ^ j / 2 ^ L rounded: the last t digits of M are dropped
 
-pub rounds : (f : Format) (s : Bool) (M j L k t : ℕ) → j + low f + t ≡ L + k → M < 2 ^ (prec f + t) → (k ≡ 0) ⊎ (2 ^ (prec f - 1 + t) ≤ M) → round f s (M * 2 ^ j) (2 ^ L) ≡ units f s (closest M (2 ^ t)) k
+pub rounds : (f : Format) (s : Bool) (M j L k t : ℕ) → j + low f + t ≡ L + k → M < 2 ^ (prec f + t) →
+    (k ≡ 0) ⊎ (2 ^ (prec f - 1 + t) ≤ M) → round f s (M * 2 ^ j) (2 ^ L) ≡ units f s (closest M (2 ^ t)) k
 rounds f s M j L k t e hi lo =
     let l = low f in
     let is : M * 2 ^ j * 2 ^ l ≡ M * 2 ^ (j + l) = mul-assoc M (2 ^ j) (2 ^ l) ∙ ap (λ (x : ℕ). M * x) (sym (pow-add 2 j l)) in
     let sum : (p : ℕ) → 2 ^ (p + t + (j + l)) ≡ 2 ^ (p + k) * 2 ^ L = λ p. ap (λ (x : ℕ). 2 ^ x) (move p t (j + l) L k e) ∙ pow-add 2 (p + k) L in
     round-by f s (M * 2 ^ j) (2 ^ L) k (pow-pos L)
-    (subst (λ (x : ℕ). x < 2 ^ (prec f + k) * 2 ^ L) (sym is) (subst (λ (x : ℕ). M * 2 ^ (j + l) < x) (sum (prec f)) (shl-lt (prec f + t) (j + l) hi)))
-    (lower lo (λ (g : 2 ^ (prec f - 1 + t) ≤ M). le-trans (le-of-eq (sym (sum (prec f - 1)) ∙ pow-add 2 (prec f - 1 + t) (j + l))) (le-trans (mul-le-mul-right (2 ^ (j + l)) g) (le-of-eq (sym is)))))
+    (subst (λ (x : ℕ). x < 2 ^ (prec f + k) * 2 ^ L) (sym is)
+    (subst (λ (x : ℕ). M * 2 ^ (j + l) < x) (sum (prec f)) (shl-lt (prec f + t) (j + l) hi)))
+    (lower lo (λ (g : 2 ^ (prec f - 1 + t) ≤ M). le-trans
+    (le-of-eq (sym (sum (prec f - 1)) ∙ pow-add 2 (prec f - 1 + t) (j + l))) (le-trans (mul-le-mul-right (2 ^ (j + l)) g) (le-of-eq (sym is)))))
     ∙ ap (λ (x : ℕ). units f s x k)
     (closest-same (M * 2 ^ j * 2 ^ l) (2 ^ L * 2 ^ k) M (2 ^ t) (mul-pos (pow-pos L) (pow-pos k)) (pow-pos t)
-    (ap (λ (x : ℕ). x * 2 ^ t) is ∙ mul-assoc M (2 ^ (j + l)) (2 ^ t) ∙ ap (λ (x : ℕ). M * x) (sym (pow-add 2 (j + l) t) ∙ ap (λ (x : ℕ). 2 ^ x) e ∙ pow-add 2 L k)))
+    (ap (λ (x : ℕ). x * 2 ^ t) is ∙ mul-assoc M (2 ^ (j + l)) (2 ^ t)
+    ∙ ap (λ (x : ℕ). M * x) (sym (pow-add 2 (j + l) t) ∙ ap (λ (x : ℕ). 2 ^ x) e ∙ pow-add 2 L k)))
   where
     move : (p t a L k : ℕ) → a + t ≡ L + k → p + t + a ≡ p + k + L
     move p t a L k e = omega arith
@@ -78,7 +90,8 @@ cmp a b = go (compare a b) (leb→le a b) (nleb→lt a b) (eqb→eq a b) (λ (e 
     go Ordering·gt h k e n = k tt
 
 div-at-one : (x u : ℕ) → 0 < u → u ≤ x → x < 2 * u → x / u ≡ 1
-div-at-one x u U a b = le-antisymm (le-of-suc-le-suc (div-lt-iff-lt-mul U .1 b)) (le-div-iff-mul-le U .1 (subst (λ (y : ℕ). y ≤ x) (sym (one-mul u)) a))
+div-at-one x u U a b =
+    le-antisymm (le-of-suc-le-suc (div-lt-iff-lt-mul U .1 b)) (le-div-iff-mul-le U .1 (subst (λ (y : ℕ). y ≤ x) (sym (one-mul u)) a))
 
 pub parity : (q : ℕ) → (q % 2 ≡ 0) ⊎ (q % 2 ≡ 1)
 parity q = of (q % 2) (mod-lt q (zero-lt-suc 1))
@@ -133,7 +146,8 @@ shift-closest m t =
       | inl z ↦ plus-none q ((r + (h - 1) + q % 2) / u) (q % 2) (div-eq-of-lt (tie-even q r h u H e c z)) z
       | inr o ↦ ap (λ (x : ℕ). q + x) (div-at-one (r + (h - 1) + q % 2) u U (tie-ge q r h u H e c o) (high-lt q r h u H e l) ∙ sym o)
     ]
-    go q r h u Ordering·gt H U e l c = plus-one q ((r + (h - 1) + q % 2) / u) (div-at-one (r + (h - 1) + q % 2) u U (high-ge q r h u H e c) (high-lt q r h u H e l))
+    go q r h u Ordering·gt H U e l c =
+        plus-one q ((r + (h - 1) + q % 2) / u) (div-at-one (r + (h - 1) + q % 2) u U (high-ge q r h u H e c) (high-lt q r h u H e l))
 
 -- ---- the machine's `1 << t`, and a pattern's sign
 

@@ -131,7 +131,8 @@ some-left a b = omega arith
 both-none : (s : Bool) (a b : ℕ) → (eqb a b && eqb a 0) ≡ isSame (signed s (a + b))
 both-none s zero zero = refl
 both-none s zero (suc b) = ap (λ (t : Bool). t && true) (eqb·zero-suc b) ∙ sym (not-same s (0 + suc b) (some-right 0 b))
-both-none s (suc a) b = ap (λ (t : Bool). eqb (suc a) b && t) (eqb·suc-zero a) ∙ and-false (eqb (suc a) b) ∙ sym (not-same s (suc a + b) (some-left a b))
+both-none s (suc a) b =
+    ap (λ (t : Bool). eqb (suc a) b && t) (eqb·suc-zero a) ∙ and-false (eqb (suc a) b) ∙ sym (not-same s (suc a + b) (some-left a b))
 
 below-is : (s : Bool) (a : ℕ) (t : Bool) (b : ℕ) → below s a t b ≡ isLess (ranked s a t b)
 below-is false a false b = ltb-is a b

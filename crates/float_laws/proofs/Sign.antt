@@ -21,7 +21,8 @@ unfolding ofFields absOf
 abs-fields f s zero t = abs-odd (prec f) s t 0 (low f)
 abs-fields f s (suc x) t = go (eqb (suc x) (ones f)) (eqb t 0)
   where
-    go : (b c : Bool) → absOf (cond b (cond c (inf s) nan) (odd (prec f) s (hid f + t) x (low f))) ≡ cond b (cond c (inf false) nan) (odd (prec f) false (hid f + t) x (low f))
+    go : (b c : Bool) → absOf (cond b (cond c (inf s) nan) (odd (prec f) s (hid f + t) x (low f))) ≡ cond b
+        (cond c (inf false) nan) (odd (prec f) false (hid f + t) x (low f))
     go true true = refl
     go true false = refl
     go false c = abs-odd (prec f) s (hid f + t) x (low f)
@@ -30,7 +31,8 @@ pub abs-bits : (f : Format) (b : ℕ) → ofBits f (b % top f) ≡ absOf (ofBits
 unfolding ofBits
 abs-bits f b =
     let P : 0 < top f = mul-pos (pow-pos (prec f - 1)) (zero-lt-suc (ones f)) in
-    ap (λ (s : Bool). ofFields f s (b % top f % top f / hid f) (b % top f % hid f)) (is-false (leb (top f) (b % top f)) (lt→nleb (top f) (b % top f) (mod-lt b P)))
+    ap (λ (s : Bool). ofFields f s (b % top f % top f / hid f) (b % top f % hid f))
+    (is-false (leb (top f) (b % top f)) (lt→nleb (top f) (b % top f) (mod-lt b P)))
     ∙ ap (λ (x : ℕ). ofFields f false (x / hid f) (b % top f % hid f)) (mod-mod b (top f))
     ∙ ap (λ (x : ℕ). ofFields f false (b % top f / hid f) x) (mod-mod-of-dvd (hid f) b (dvd-mul-right (hid f) (suc (ones f))))
     ∙ sym (abs-fields f (leb (top f) b) (b % top f / hid f) (b % hid f))

@@ -2,7 +2,8 @@
 use mathlib.Core.Path.{_≡_, refl, sym, ap, _∙_, subst}
 use mathlib.Core.Bool.{Bool, cond, _&&_}
 use Prim.Native.Nat.{ℕ, zero, suc, _+_, _-_, _*_, _/_, _%_, _^_, _≤_, _<_}
-use native.Mathlib.Nat.{le-of-suc-le-suc, lt-of-lt-of-le, lt-of-not-le, lt-irrefl, zero-mul, mul-one, mul-comm, mul-assoc, mul-right-comm, mul-div-cancel, lt-of-mul-lt-mul-right, mul-lt-mul-of-pos-right}
+use native.Mathlib.Nat.{le-of-suc-le-suc, lt-of-lt-of-le, lt-of-not-le, lt-irrefl, zero-mul, mul-one, mul-comm, mul-assoc, mul-right-comm}
+use native.Mathlib.Nat.{mul-div-cancel, lt-of-mul-lt-mul-right, mul-lt-mul-of-pos-right}
 use lib.IntN.{ℤ, pos, negsuc}
 use lib.Dec.{T, leb, ltb, eqb, ltb→lt, leb→le}
 use lib.Pow.{pow-add, pow-pos, pow-lt}
@@ -25,7 +26,8 @@ same-value nan s a c a′ c′ C e h = h
 same-value (inf t) s a c a′ c′ C e h = h
 same-value (fin t m d) s a c a′ c′ C e h = (
   h .0,
-  cancel (m * up d * c′) (a′ * down d) C (mul-right-comm (m * up d) c′ c ∙ ap (λ (z : ℕ). z * c′) (h .1) ∙ mul-right-comm a (down d) c′ ∙ ap (λ (z : ℕ). z * down d) e ∙ mul-right-comm a′ c (down d)),
+  cancel (m * up d * c′) (a′ * down d) C (mul-right-comm (m * up d) c′ c ∙ ap (λ (z : ℕ). z * c′) (h .1)
+      ∙ mul-right-comm a (down d) c′ ∙ ap (λ (z : ℕ). z * down d) e ∙ mul-right-comm a′ c (down d)),
 )
 
 -- ---- a value is a whole number of smallest values, with few digits
@@ -46,16 +48,22 @@ bound : (f : Format) (n v d : ℕ) → n * 2 ^ low f ≡ v * d → n < 2 ^ suc (
 bound f n v d e h =
     lt-of-mul-lt-mul-right d
     (subst (λ (z : ℕ). z < 2 ^ (low f + suc (emax f)) * d) e
-    (subst (λ (z : ℕ). n * 2 ^ low f < z) (mul-right-comm (2 ^ suc (emax f)) d (2 ^ low f) ∙ ap (λ (z : ℕ). z * d) (mul-comm (2 ^ suc (emax f)) (2 ^ low f) ∙ sym (pow-add 2 (low f) (suc (emax f))))) (mul-lt-mul-of-pos-right h (pow-pos (low f)))))
+    (subst (λ (z : ℕ). n * 2 ^ low f < z) (mul-right-comm (2 ^ suc (emax f)) d (2 ^ low f)
+    ∙ ap (λ (z : ℕ). z * d) (mul-comm (2 ^ suc (emax f)) (2 ^ low f) ∙ sym (pow-add 2 (low f) (suc (emax f)))))
+    (mul-lt-mul-of-pos-right h (pow-pos (low f)))))
 
-of-exponent : (f : Format) (s : Bool) (m : ℕ) (e : ℤ) → m < 2 ^ prec f → down e ≤ 2 ^ low f → m * up e < 2 ^ suc (emax f) * down e → Counted f (fin s m e)
+of-exponent : (f : Format) (s : Bool) (m : ℕ) (e : ℤ) → m < 2 ^ prec f → down e ≤ 2 ^ low f →
+    m * up e < 2 ^ suc (emax f) * down e → Counted f (fin s m e)
 of-exponent f s m (pos a) h d u =
-    let is : m * 2 ^ a * 2 ^ low f ≡ m * 2 ^ (a + low f) * 1 = mul-assoc m (2 ^ a) (2 ^ low f) ∙ ap (λ (x : ℕ). m * x) (sym (pow-add 2 a (low f))) ∙ sym (mul-one (m * 2 ^ (a + low f))) in
+    let is : m * 2 ^ a * 2 ^ low f ≡ m * 2 ^ (a + low f) * 1 = mul-assoc m (2 ^ a) (2 ^ low f)
+    ∙ ap (λ (x : ℕ). m * x) (sym (pow-add 2 a (low f))) ∙ sym (mul-one (m * 2 ^ (a + low f))) in
     record { m = m; i = a + low f; few = h; value = is; under = bound f (m * 2 ^ a) (m * 2 ^ (a + low f)) 1 is u }
 of-exponent f s m (negsuc a) h d u =
     let le : suc a ≤ low f = pow-le-back (suc a) (low f) d in
     let is : m * 1 * 2 ^ low f ≡ m * 2 ^ (low f - suc a) * 2 ^ suc a =
-    ap (λ (x : ℕ). x * 2 ^ low f) (mul-one m) ∙ ap (λ (x : ℕ). m * x) (ap (λ (x : ℕ). 2 ^ x) (sym (back (low f) (suc a) le)) ∙ pow-add 2 (low f - suc a) (suc a)) ∙ sym (mul-assoc m (2 ^ (low f - suc a)) (2 ^ suc a)) in
+    ap (λ (x : ℕ). x * 2 ^ low f) (mul-one m)
+    ∙ ap (λ (x : ℕ). m * x) (ap (λ (x : ℕ). 2 ^ x) (sym (back (low f) (suc a) le)) ∙ pow-add 2 (low f - suc a) (suc a))
+    ∙ sym (mul-assoc m (2 ^ (low f - suc a)) (2 ^ suc a)) in
     record { m = m; i = low f - suc a; few = h; value = is; under = bound f (m * 1) (m * 2 ^ (low f - suc a)) (2 ^ suc a) is u }
 
 pub count-of : (f : Format) (y : Float) → T (fits f y) → T (finite y) → Counted f y
@@ -75,7 +83,8 @@ count-of f (fin s (suc m) e) h c =
     let B = ltb (suc m) (2 ^ prec f) in
     let C = leb (down e) (2 ^ low f) in
     let D = ltb (suc m * up e) (2 ^ suc (emax f) * down e) in
-    of-exponent f s (suc m) e (ltb→lt (suc m) (2 ^ prec f) (and-r A B (and-l (A && B) C (and-l (A && B && C) D h)))) (leb→le (down e) (2 ^ low f) (and-r (A && B) C (and-l (A && B && C) D h)))
+    of-exponent f s (suc m) e (ltb→lt (suc m) (2 ^ prec f) (and-r A B (and-l (A && B) C (and-l (A && B && C) D h))))
+    (leb→le (down e) (2 ^ low f) (and-r (A && B) C (and-l (A && B && C) D h)))
     (ltb→lt (suc m * up e) (2 ^ suc (emax f) * down e) (and-r (A && B && C) D h))
 
 -- ---- no two values are the same number
@@ -88,11 +97,13 @@ unfolding toBits
 toBits-of f nan s a c C h = absurd h
 toBits-of f (inf t) s a c C h = absurd h
 toBits-of f (fin t m e) s a c C h =
-    ap (patternOf f t) (div-same (m * up e * 2 ^ low f) (down e) (a * 2 ^ low f) c (down-pos e) C (mul-right-comm (m * up e) (2 ^ low f) c ∙ ap (λ (z : ℕ). z * 2 ^ low f) (h .1) ∙ mul-right-comm a (down e) (2 ^ low f)))
+    ap (patternOf f t) (div-same (m * up e * 2 ^ low f) (down e) (a * 2 ^ low f) c (down-pos e) C
+    (mul-right-comm (m * up e) (2 ^ low f) c ∙ ap (λ (z : ℕ). z * 2 ^ low f) (h .1) ∙ mul-right-comm a (down e) (2 ^ low f)))
     ∙ ap (λ (b : Bool). patternOf f b (a * 2 ^ low f / c)) (h .0)
 
 pub value-unique : (f : Format) (x y : Float) (s : Bool) (a c : ℕ) → T (fits f x) → T (fits f y) → 0 < c → HasValue x s a c → HasValue y s a c → x ≡ y
-value-unique f x y s a c F G C h g = sym (ofBits-toBits f x F) ∙ ap (ofBits f) (toBits-of f x s a c C h ∙ sym (toBits-of f y s a c C g)) ∙ ofBits-toBits f y G
+value-unique f x y s a c F G C h g =
+    sym (ofBits-toBits f x F) ∙ ap (ofBits f) (toBits-of f x s a c C h ∙ sym (toBits-of f y s a c C g)) ∙ ofBits-toBits f y G
 
 -- ---- rounding what the format holds
 

@@ -65,7 +65,8 @@ fn give_halves(c: Conic, halves: &mut [f32; 14])
 #[no_mangle]
 pub extern "C" fn nz_conic_chop(src: &[f32], weight: f32, halves: &mut [f32; 14]) -> u32
     ensures { λ r. ⌜ r ≡ refuseSource (now (src .entry)) numberOf 0 ⌝ }
-    ensures halves { λ _. ⌜ now (halves .exit) ≡ filledOr (now (halves .entry)) (refuseSource (now (src .entry)) valuesOf (halfNumbers (chopOf (conicOf (now (src .entry)) weight)))) ⌝ }
+    ensures halves { λ _. ⌜ now (halves .exit) ≡ filledOr (now (halves .entry))
+        (refuseSource (now (src .entry)) valuesOf (halfNumbers (chopOf (conicOf (now (src .entry)) weight)))) ⌝ }
 {
     let answer = Conic::from_points(src, weight);
     let number = answer.number();
@@ -102,7 +103,9 @@ pub extern "C" fn nz_conic_compute_quad_pow2(
     level: &mut u32,
 ) -> u32
     ensures { λ r. ⌜ r ≡ refuseLevel (ltb (length (now (src .entry))) 6) (conicOf (now (src .entry)) weight) tolerance numberOf 0 ⌝ }
-    ensures level { λ _. ⌜ now (level .exit) ≡ firstOr (now (level .entry)) (refuseLevel (ltb (length (now (src .entry))) 6) (conicOf (now (src .entry)) weight) tolerance valuesOf (levelOf (conicOf (now (src .entry)) weight) tolerance ∷ [])) ⌝ }
+    ensures level { λ _. ⌜ now (level .exit) ≡ firstOr (now (level .entry))
+        (refuseLevel (ltb (length (now (src .entry))) 6) (conicOf (now (src .entry)) weight) tolerance valuesOf
+        (levelOf (conicOf (now (src .entry)) weight) tolerance ∷ [])) ⌝ }
 {
     give_level(Conic::compute_quad_pow2_from(src, weight, tolerance), level)
 }
@@ -116,7 +119,8 @@ pub extern "C" fn nz_conic_chop_into_quads_pow2(
     out: &mut [f32],
 ) -> u32
     ensures { λ r. ⌜ r ≡ refuse level (length (now (out .entry))) (ltb (length (now (src .entry))) 6) numberOf 0 ⌝ }
-    ensures buffer { λ _. ⌜ now (out .exit) ≡ cutBuffer (chopBy Product) level (conicOf (now (src .entry)) weight) (ltb (length (now (src .entry))) 6) (now (out .entry)) ⌝ }
+    ensures buffer { λ _. ⌜ now (out .exit) ≡ cutBuffer (chopBy Product) level (conicOf (now (src .entry)) weight)
+        (ltb (length (now (src .entry))) 6) (now (out .entry)) ⌝ }
 {
     conic_cut::chop_into_quads_pow2_from(out, Rule::Product, src, weight, level).number()
 }
@@ -126,8 +130,10 @@ pub extern "C" fn nz_conic_chop_into_quads_pow2(
 #[no_mangle]
 pub extern "C" fn nz_cut_in_order(src: &[f32], weight: f32, level: u32, out: &mut [f32]) -> u32
     ensures { λ r. ⌜ r ≡ refuse level (length (now (out .entry))) (ltb (length (now (src .entry))) 6) numberOf 0 ⌝ }
-    ensures buffer { λ _. ⌜ now (out .exit) ≡ cutBuffer (chopBy Exact) level (conicOf (now (src .entry)) weight) (ltb (length (now (src .entry))) 6) (now (out .entry)) ⌝ }
-    ensures order { λ _. ⌜ (6 ≤ length (now (src .entry)) → OrderKept Exact level (conicOf (now (src .entry)) weight) (now (out .entry)) (now (out .exit))) ⌝ }
+    ensures buffer { λ _. ⌜ now (out .exit) ≡ cutBuffer (chopBy Exact) level (conicOf (now (src .entry)) weight)
+        (ltb (length (now (src .entry))) 6) (now (out .entry)) ⌝ }
+    ensures order { λ _. ⌜ (6 ≤ length (now (src .entry)) → OrderKept Exact level (conicOf (now (src .entry)) weight) (now (out .entry))
+        (now (out .exit))) ⌝ }
 {
     conic_cut::chop_into_quads_pow2_from(out, Rule::Exact, src, weight, level).number()
 }
@@ -160,7 +166,8 @@ pub extern "C" fn nz_auto_conic_to_quads(
     quads: &mut usize,
 ) -> u32
     ensures { λ r. ⌜ r ≡ numberOfCut (autoFrom (now (src .entry)) weight) ⌝ }
-    ensures out { λ _. ⌜ now (out .exit) ≡ pointsOr (now (out .entry)) (autoFrom (now (src .entry)) weight) (autoPoints (conicOf (now (src .entry)) weight)) ⌝ }
+    ensures out { λ _. ⌜ now (out .exit) ≡ pointsOr (now (out .entry)) (autoFrom (now (src .entry)) weight)
+        (autoPoints (conicOf (now (src .entry)) weight)) ⌝ }
     ensures quads { λ _. ⌜ now (quads .exit) ≡ firstOr (now (quads .entry)) (valuesOfCut (autoFrom (now (src .entry)) weight)) ⌝ }
 {
     match Conic::from_points(src, weight) {

@@ -37,7 +37,8 @@ pub extern "C" fn nz_eval_quad_at(src: &[f32], t: f32, out: &mut [f32; 2]) -> u3
 #[no_mangle]
 pub extern "C" fn nz_eval_quad_tangent_at(src: &[f32], t: f32, out: &mut [f32; 2]) -> u32
     ensures { λ r. ⌜ r ≡ evalNumber 6 t (now (src .entry)) ⌝ }
-    ensures out { λ _. ⌜ now (out .exit) ≡ filledOr (now (out .entry)) (evalValues 6 t (now (src .entry)) (quadTangent (quadOf (now (src .entry))) t)) ⌝ }
+    ensures out { λ _. ⌜ now (out .exit) ≡ filledOr (now (out .entry))
+        (evalValues 6 t (now (src .entry)) (quadTangent (quadOf (now (src .entry))) t)) ⌝ }
 {
     give(quads::eval_quad_tangent_at(src, t), out)
 }
@@ -46,7 +47,8 @@ pub extern "C" fn nz_eval_quad_tangent_at(src: &[f32], t: f32, out: &mut [f32; 2
 #[no_mangle]
 pub extern "C" fn nz_eval_cubic_pos_at(src: &[f32], t: f32, out: &mut [f32; 2]) -> u32
     ensures { λ r. ⌜ r ≡ evalNumber 8 t (now (src .entry)) ⌝ }
-    ensures out { λ _. ⌜ now (out .exit) ≡ filledOr (now (out .entry)) (evalValues 8 t (now (src .entry)) (cubicAt (cubicOf (now (src .entry))) t)) ⌝ }
+    ensures out { λ _. ⌜ now (out .exit) ≡ filledOr (now (out .entry))
+        (evalValues 8 t (now (src .entry)) (cubicAt (cubicOf (now (src .entry))) t)) ⌝ }
 {
     give(cubics::eval_cubic_pos_at(src, t), out)
 }
@@ -56,7 +58,8 @@ pub extern "C" fn nz_eval_cubic_pos_at(src: &[f32], t: f32, out: &mut [f32; 2]) 
 #[no_mangle]
 pub extern "C" fn nz_eval_cubic_tangent_at(src: &[f32], t: f32, out: &mut [f32; 2]) -> u32
     ensures { λ r. ⌜ r ≡ evalNumber 8 t (now (src .entry)) ⌝ }
-    ensures out { λ _. ⌜ now (out .exit) ≡ filledOr (now (out .entry)) (evalValues 8 t (now (src .entry)) (cubicTangent (cubicOf (now (src .entry))) t)) ⌝ }
+    ensures out { λ _. ⌜ now (out .exit) ≡ filledOr (now (out .entry))
+        (evalValues 8 t (now (src .entry)) (cubicTangent (cubicOf (now (src .entry))) t)) ⌝ }
 {
     give(cubics::eval_cubic_tangent_at(src, t), out)
 }

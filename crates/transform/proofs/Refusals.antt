@@ -6,7 +6,8 @@ use Rattle.transform.specs.declared.invert.Inversion.{Inversion}
 use Rattle.transform.specs.declared.invert.Inversion.the-variants.{Inverted}
 use Rattle.transform.specs.declared.invert.InvDeterminant.the-variants.{Is, NearlyZero}
 use Rattle.transform.specs.Kinds.{hasScale, hasSkew, hasTranslate, hasOnly, isScaleTranslate, isFinite}
-use Rattle.transform.specs.Inverse.{numberOfInversion, refusalOf, invertOf, unskewedInverse, invDeterminant, skewedInverse, skewedInversion, checkedOf, nearlySingular, overDeterminant}
+use Rattle.transform.specs.Inverse.{numberOfInversion, refusalOf, invertOf, unskewedInverse, invDeterminant, skewedInverse}
+use Rattle.transform.specs.Inverse.{skewedInversion, checkedOf, nearlySingular, overDeterminant}
 
 -- what skews is neither the identity nor a scale or a translation, and all else is one of them
 by-parts : (scale skew translate : Bool) (t u : Transform) (i : Inversion) →

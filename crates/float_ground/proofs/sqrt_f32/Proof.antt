@@ -20,7 +20,8 @@ float32-requires c κs = search needs
 returns : tie.Need-returns
 returns c =
     let a = c .before .before in
-    both binary32 (a .before .args .x) (c .float32 .result) (subst T (sym (a .before .good .0 .1)) tt) (c .float32 .ensures ∙ c .before .root-to .ensures .is (a .before .args .x) (a .take-apart32 .ensures))
+    both binary32 (a .before .args .x) (c .float32 .result) (subst T (sym (a .before .good .0 .1)) tt)
+    (c .float32 .ensures ∙ c .before .root-to .ensures .is (a .before .args .x) (a .take-apart32 .ensures))
 
 pub sqrt-f32-spec : {M : Type 1} → statement M
 sqrt-f32-spec = tie.close (tie.spec take-apart32-requires root-to-requires float32-requires returns)

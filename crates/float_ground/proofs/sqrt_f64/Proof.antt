@@ -20,7 +20,8 @@ float64-requires c κs = search needs
 returns : tie.Need-returns
 returns c =
     let a = c .before .before in
-    both binary64 (a .before .args .x) (c .float64 .result) (subst T (sym (a .before .good .0 .1)) tt) (c .float64 .ensures ∙ c .before .root-to .ensures .is (a .before .args .x) (a .take-apart64 .ensures))
+    both binary64 (a .before .args .x) (c .float64 .result) (subst T (sym (a .before .good .0 .1)) tt)
+    (c .float64 .ensures ∙ c .before .root-to .ensures .is (a .before .args .x) (a .take-apart64 .ensures))
 
 pub sqrt-f64-spec : {M : Type 1} → statement M
 sqrt-f64-spec = tie.close (tie.spec take-apart64-requires root-to-requires float64-requires returns)

@@ -2,11 +2,14 @@
 -- Each number is as the machine has it, with its own equation. Assumes nothing.
 use mathlib.Core.Path.{_≡_, refl, sym, ap, _∙_}
 use Prim.Native.Nat.{ℕ, zero, suc, _+_, _-_, _*_, _/_, _%_, _^_, _≤_, _<_}
-use native.Mathlib.Nat.{le-trans, le-of-eq, mul-comm, mul-assoc, mul-right-comm, mul-left-comm, mul-add, add-mul, suc-mul, mul-le-mul, mul-le-mul-right, div-mul-le-self, div-add-mod', mod-lt, div-le-of-le-mul}
+use native.Mathlib.Nat.{le-trans, le-of-eq, mul-comm, mul-assoc, mul-right-comm, mul-left-comm, mul-add, add-mul, suc-mul, mul-le-mul}
+use native.Mathlib.Nat.{mul-le-mul-right, div-mul-le-self, div-add-mod', mod-lt, div-le-of-le-mul}
 use native.Mathlib.Omega.{arith}
 
 square-sum : (a b : ℕ) → (a + b) * (a + b) ≡ a * a + (a * b + a * b) + b * b
-square-sum a b = mul-add (a + b) a b ∙ ap (λ (x : ℕ). x + (a + b) * b) (add-mul a b a) ∙ ap (λ (x : ℕ). a * a + b * a + x) (add-mul a b b) ∙ ap (λ (x : ℕ). a * a + x + (a * b + b * b)) (mul-comm b a) ∙ tidy (a * a) (a * b) (b * b)
+square-sum a b =
+    mul-add (a + b) a b ∙ ap (λ (x : ℕ). x + (a + b) * b) (add-mul a b a) ∙ ap (λ (x : ℕ). a * a + b * a + x) (add-mul a b b)
+    ∙ ap (λ (x : ℕ). a * a + x + (a * b + b * b)) (mul-comm b a) ∙ tidy (a * a) (a * b) (b * b)
   where
     tidy : (x y z : ℕ) → x + y + (y + z) ≡ x + (y + y) + z
     tidy x y z = omega arith
@@ -16,7 +19,9 @@ square-less zero h = absurd (none h)
   where
     none : 0 < 0 → ⊥
     none h = omega arith
-square-less (suc a) h = ap (λ (x : ℕ). x * x + (suc a + suc a)) (pred a) ∙ tidy (a * a) a ∙ ap (λ (x : ℕ). x + 1) (sym (suc-mul a (suc a) ∙ ap (λ (x : ℕ). x + suc a) (mul-comm a (suc a) ∙ suc-mul a a)))
+square-less (suc a) h =
+    ap (λ (x : ℕ). x * x + (suc a + suc a)) (pred a) ∙ tidy (a * a) a
+    ∙ ap (λ (x : ℕ). x + 1) (sym (suc-mul a (suc a) ∙ ap (λ (x : ℕ). x + suc a) (mul-comm a (suc a) ∙ suc-mul a a)))
   where
     pred : (a : ℕ) → suc a - 1 ≡ a
     pred a = omega arith
@@ -87,7 +92,8 @@ module _ (s rest : ℕ) (lo : 2 ^ 26 ≤ s) (hi : s < 2 ^ 27) (le : rest ≤ s +
   balance =
       ap (λ (x : ℕ). x * x + v) root-is
       ∙ ap (λ (x : ℕ). x + v) (square-sum (s * 2 ^ 26) q)
-      ∙ go (s * 2 ^ 26 * (s * 2 ^ 26)) (s * 2 ^ 26 * q) (q * q) (s * s) rest t u v (q * (s + s)) (s * q) squares cross t-is qd-le (twice q s) v-is refl
+      ∙ go (s * 2 ^ 26 * (s * 2 ^ 26)) (s * 2 ^ 26 * q) (q * q) (s * s) rest t u v (q * (s + s))
+      (s * q) squares cross t-is qd-le (twice q s) v-is refl
       ∙ ap (λ (x : ℕ). x + q * q) (sym (add-mul (s * s) rest (2 ^ 52)))
     where
       squares : s * 2 ^ 26 * (s * 2 ^ 26) ≡ s * s * 2 ^ 52
@@ -102,7 +108,8 @@ module _ (s rest : ℕ) (lo : 2 ^ 26 ≤ s) (hi : s < 2 ^ 27) (le : rest ≤ s +
       twice : (q s : ℕ) → q * (s + s) ≡ s * q + s * q
       twice q s = mul-add q s s ∙ ap (λ (x : ℕ). x + x) (mul-comm q s)
 
-      go : (X Y Z S r t u v w y : ℕ) → X ≡ S * 2 ^ 52 → Y ≡ y * 2 ^ 26 → t ≡ r * 2 ^ 26 → w ≤ t → w ≡ y + y → v ≡ u * 2 ^ 26 → u ≡ t - w → X + (Y + Y) + Z + v ≡ S * 2 ^ 52 + r * 2 ^ 52 + Z
+      go : (X Y Z S r t u v w y : ℕ) → X ≡ S * 2 ^ 52 → Y ≡ y * 2 ^ 26 → t ≡ r * 2 ^ 26 → w ≤ t → w ≡ y + y → v ≡ u * 2 ^ 26 →
+          u ≡ t - w → X + (Y + Y) + Z + v ≡ S * 2 ^ 52 + r * 2 ^ 52 + Z
       go X Y Z S r t u v w y a b c d e f g = omega arith
 
   pub v-le : v ≤ h + q + (h + q)
@@ -137,8 +144,11 @@ module _ (s rest : ℕ) (lo : 2 ^ 26 ≤ s) (hi : s < 2 ^ 27) (le : rest ≤ s +
 
   pub one-less : v < q * q → Extended (h + q - 1) (v + (h + q + (h + q) - 1) - q * q)
   one-less g =
-      let a = h + q in
-      (same (a * a) ((a - 1) * (a - 1)) v (q * q) a ((s * s + rest) * 2 ^ 52) balance (square-less a (pos a root-ge)) qq-le root-ge, less v (q * q) a g root-ge)
+      let a = h + q in (
+        same (a * a) ((a - 1) * (a - 1)) v (q * q) a ((s * s + rest) * 2 ^ 52) balance
+            (square-less a (pos a root-ge)) qq-le root-ge,
+        less v (q * q) a g root-ge,
+      )
     where
       pos : (a : ℕ) → 2 ^ 52 ≤ a → 0 < a
       pos a h = omega arith

@@ -21,7 +21,8 @@ float64-requires c κs = search needs
 returns : tie.Need-returns
 returns c =
     let a = c .before .before in
-    c .float64 .ensures ∙ c .before .round-to .ensures .is binary32 (a .before .args .x) (a .take-apart32 .ensures) ∙ round-held binary64 (a .before .args .x) (fits-widens (a .before .args .x) (subst T (sym (a .before .good .0 .1)) tt))
+    c .float64 .ensures ∙ c .before .round-to .ensures .is binary32 (a .before .args .x) (a .take-apart32 .ensures)
+    ∙ round-held binary64 (a .before .args .x) (fits-widens (a .before .args .x) (subst T (sym (a .before .good .0 .1)) tt))
 
 pub widen-spec : {M : Type 1} → statement M
 widen-spec = tie.close (tie.spec take-apart32-requires round-to-requires float64-requires returns)

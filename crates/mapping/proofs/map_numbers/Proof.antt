@@ -23,8 +23,11 @@ returns c = rw (ne-eqb _ _ (c .if1 .taken)) (refl, (refl, refl))
 
 loop-again : tie.Need-loop-again Inv-loop μ-loop
 loop-again c =
-    let at = c .before .before .before .before .loop in
-    (next _ (at .i) (at .numbers) nan (omega arith) (c .map-point .ensures) ∙ at .inv .0, simp length-set (omega arith), simp length-set (omega arith))
+    let at = c .before .before .before .before .loop in (
+      next _ (at .i) (at .numbers) nan (omega arith) (c .map-point .ensures) ∙ at .inv .0,
+      simp length-set (omega arith),
+      simp length-set (omega arith),
+    )
 
 returns-2 : tie.Need-returns-2 Inv-loop μ-loop
 returns-2 c =

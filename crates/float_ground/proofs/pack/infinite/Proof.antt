@@ -21,7 +21,9 @@ signed-requires : tie.Need-signed-requires
 signed-requires c κs = le-of-eq (same c)
 
 returns : tie.Need-returns
-returns c = c .signed .ensures ∙ ap (λ (r : ℕ). Bits (cond (c .before .before .args .negative) (top (formatOf (c .before .before .args .w))) 0 + r)) (same (c .before))
+returns c =
+    c .signed .ensures ∙ ap (λ (r : ℕ). Bits
+    (cond (c .before .before .args .negative) (top (formatOf (c .before .before .args .w))) 0 + r)) (same (c .before))
 
 pub infinite-spec : {M : Type 1} → statement M
 infinite-spec = tie.close (tie.spec layout-requires signed-requires returns)

@@ -32,17 +32,27 @@ module _ (a : tie.After-layout) where
   in-spare = by-layout (λ (l : Layout). (1 ≤ l .spare) × (l .spare ≤ 55) × (l .spare ≤ l .lowest)) (spare-in f)
 
   is-nothing : e < a .layout .result .lowest - a .layout .result .spare → 55 < a .layout .result .lowest - e → Is 0
-  is-nothing = by-layout (λ (l : Layout). e < l .lowest - l .spare → 55 < l .lowest - e → Is 0) (λ h g. nothing f (a .before .args .n) (a .before .pre) _ h refl g)
+  is-nothing =
+      by-layout (λ (l : Layout). e < l .lowest - l .spare → 55 < l .lowest - e → Is 0)
+      (λ h g. nothing f (a .before .args .n) (a .before .pre) _ h refl g)
 
   is-subnormal : e < a .layout .result .lowest - a .layout .result .spare → Is (closest m (2 ^ (a .layout .result .lowest - e)))
-  is-subnormal = by-layout (λ (l : Layout). e < l .lowest - l .spare → Is (closest m (2 ^ (l .lowest - e)))) (λ h. subnormal f (a .before .args .n) (a .before .pre) _ h refl)
+  is-subnormal =
+      by-layout (λ (l : Layout). e < l .lowest - l .spare → Is (closest m (2 ^ (l .lowest - e))))
+      (λ h. subnormal f (a .before .args .n) (a .before .pre) _ h refl)
 
-  is-over : a .layout .result .lowest - a .layout .result .spare ≤ e → a .layout .result .infinite ≤ e - (a .layout .result .lowest - a .layout .result .spare) + 1 → Is (a .layout .result .infinity)
-  is-over = by-layout (λ (l : Layout). l .lowest - l .spare ≤ e → l .infinite ≤ e - (l .lowest - l .spare) + 1 → Is (l .infinity)) (over f (a .before .args .n) (a .before .pre))
+  is-over : a .layout .result .lowest - a .layout .result .spare ≤ e →
+      a .layout .result .infinite ≤ e - (a .layout .result .lowest - a .layout .result .spare) + 1 → Is (a .layout .result .infinity)
+  is-over =
+      by-layout (λ (l : Layout). l .lowest - l .spare ≤ e → l .infinite ≤ e - (l .lowest - l .spare) + 1 → Is (l .infinity))
+      (over f (a .before .args .n) (a .before .pre))
 
-  is-normal : a .layout .result .lowest - a .layout .result .spare ≤ e → e - (a .layout .result .lowest - a .layout .result .spare) + 1 < a .layout .result .infinite
+  is-normal : a .layout .result .lowest - a .layout .result .spare ≤ e →
+      e - (a .layout .result .lowest - a .layout .result .spare) + 1 < a .layout .result .infinite
       → Is ((e - (a .layout .result .lowest - a .layout .result .spare)) * a .layout .result .hidden + closest m (2 ^ a .layout .result .spare))
-  is-normal = by-layout (λ (l : Layout). l .lowest - l .spare ≤ e → e - (l .lowest - l .spare) + 1 < l .infinite → Is ((e - (l .lowest - l .spare)) * l .hidden + closest m (2 ^ l .spare))) (normal f (a .before .args .n) (a .before .pre))
+  is-normal =
+      by-layout (λ (l : Layout). l .lowest - l .spare ≤ e → e - (l .lowest - l .spare) + 1 < l .infinite →
+      Is ((e - (l .lowest - l .spare)) * l .hidden + closest m (2 ^ l .spare))) (normal f (a .before .args .n) (a .before .pre))
 
   -- any pattern fits 63 bits
   small : (r : ℕ) → Is r → r < 2 ^ 63
@@ -90,10 +100,12 @@ round-shift-requires-2 c κs =
     let s = in-spare (c .before .before .before .before .before .before .before) in
     (search needs, (s .0, s .1))
 
-whole : (c : tie.After-round-shift2) → let a = c .before .before .before .before .before .before .before .before in Is a ((e a - (a .layout .result .lowest - a .layout .result .spare)) * a .layout .result .hidden + c .round-shift2 .result)
+whole : (c : tie.After-round-shift2) → let a = c .before .before .before .before .before .before .before .before in
+    Is a ((e a - (a .layout .result .lowest - a .layout .result .spare)) * a .layout .result .hidden + c .round-shift2 .result)
 whole c =
     let a = c .before .before .before .before .before .before .before .before in
-    subst (λ (q : ℕ). Is a ((e a - (a .layout .result .lowest - a .layout .result .spare)) * a .layout .result .hidden + q)) (sym (c .round-shift2 .ensures))
+    subst (λ (q : ℕ). Is a ((e a - (a .layout .result .lowest - a .layout .result .spare)) * a .layout .result .hidden + q))
+    (sym (c .round-shift2 .ensures))
     (is-normal a (c .before .before .before .before .before .if1 .left) (c .before .before .if3 .left))
 
 add-result : tie.Need-add-result

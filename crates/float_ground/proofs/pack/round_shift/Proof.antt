@@ -47,7 +47,8 @@ returns : tie.Need-returns
 returns c =
     let s = c .before in
     let m = s .args .m in
-    rw (half s, c .up-at-tie .ensures) (subst (λ (x : ℕ). (m + (2 ^ (s .args .t - 1) - 1) + m / 2 ^ x % 2) / 2 ^ x ≡ closest m (2 ^ x)) (next s) (shift-closest m (s .args .t - 1)))
+    rw (half s, c .up-at-tie .ensures) (subst
+    (λ (x : ℕ). (m + (2 ^ (s .args .t - 1) - 1) + m / 2 ^ x % 2) / 2 ^ x ≡ closest m (2 ^ x)) (next s) (shift-closest m (s .args .t - 1)))
 
 pub round-shift-spec : {M : Type 1} → statement M
 round-shift-spec = tie.close (tie.spec sub-result shl-result sub-result-2 add-result shr-up-at-tie up-at-tie-requires add-result-2 shr-result returns)

@@ -9,7 +9,8 @@ use Rattle.float_ground.proofs.pack.round_to.Statement.{statement}
 use Rattle.float_ground.proofs.pack.round_to.Tie as tie
 
 -- what was taken apart and the pattern, by what they are
-by : (c : tie.Start) (a : Apart) (p q : Pattern) → c .args .a ≡ a → q ≡ p → RoundedTo (formatOf (c .args .w)) a p → RoundedTo (formatOf (c .args .w)) (c .args .a) q
+by : (c : tie.Start) (a : Apart) (p q : Pattern) → c .args .a ≡ a → q ≡ p → RoundedTo (formatOf (c .args .w)) a p →
+    RoundedTo (formatOf (c .args .w)) (c .args .a) q
 by c a p q e h r = rw (e, h) r
 
 enum-told : tie.Need-enum-told
@@ -55,7 +56,8 @@ returns-4 : tie.Need-returns-4
 returns-4 c =
     let s = c .before .before .before .before .before in
     let a = c .before .before .before .a3 in
-    by s _ _ (c .signed2 .result) (a .given .1) (c .signed2 .ensures) (rounded-number (formatOf (s .args .w)) (a .given .0 .0) (c .before .pack .result) (c .before .pack .ensures))
+    by s _ _ (c .signed2 .result) (a .given .1) (c .signed2 .ensures)
+    (rounded-number (formatOf (s .args .w)) (a .given .0 .0) (c .before .pack .result) (c .before .pack .ensures))
 
 pub round-to-spec : {M : Type 1} → statement M
 round-to-spec =

@@ -21,10 +21,15 @@ layout-requires c κs = search needs
 add-t6 : tie.Need-add-t6
 add-t6 c =
     let s = c .before .before .before in
-    record { fits = subst (λ (l : Layout). l .sign + s .args .rest < 2 ^ 64) (sym (c .before .layout .ensures)) (room (formatOf (s .args .w)) (s .args .rest) (s .pre)) }
+    record {
+      fits =
+          subst (λ (l : Layout). l .sign + s .args .rest < 2 ^ 64) (sym (c .before .layout .ensures))
+          (room (formatOf (s .args .w)) (s .args .rest) (s .pre));
+    }
 
 returns : tie.Need-returns
-returns c = rw (c .before .before .if1 .taken) (ap (λ (l : Layout). Bits (l .sign + c .before .before .before .args .rest)) (c .before .layout .ensures))
+returns c =
+    rw (c .before .before .if1 .taken) (ap (λ (l : Layout). Bits (l .sign + c .before .before .before .args .rest)) (c .before .layout .ensures))
 
 returns-2 : tie.Need-returns-2
 returns-2 c = rw (c .if1 .left, zero-add)

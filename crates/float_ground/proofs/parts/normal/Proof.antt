@@ -40,7 +40,9 @@ shl-t10 : tie.Need-shl-t10
 shl-t10 c = omega (arith, few c)
 
 back : (m z e : ℕ) → z ≤ e → m * 2 ^ z * 2 ^ (e - z) ≡ m * 2 ^ e
-back m z e h = mul-assoc m (2 ^ z) (2 ^ (e - z)) ∙ ap (λ (y : ℕ). m * y) (sym (pow-add 2 z (e - z)) ∙ ap (λ (y : ℕ). 2 ^ y) (add-comm z (e - z) ∙ sub-add-cancel h))
+back m z e h =
+    mul-assoc m (2 ^ z) (2 ^ (e - z)) ∙ ap (λ (y : ℕ). m * y)
+    (sym (pow-add 2 z (e - z)) ∙ ap (λ (y : ℕ). 2 ^ y) (add-comm z (e - z) ∙ sub-add-cancel h))
 
 returns : tie.Need-returns
 returns c =

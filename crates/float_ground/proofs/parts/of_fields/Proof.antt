@@ -54,7 +54,8 @@ returns-2 : tie.Need-returns-2
 returns-2 c =
     let a = c .before .before .before .before .before in
     stands-high (f a) (a .before .args .negative) (x a) (t a) (c .normal .result) (c .before .before .if2 .taken)
-    (λ e. c .before .before .before .if1 .left (e ∙ sym (ap (λ (l : Layout). l .infinite) (is a)))) (a .before .pre .1 .0) (rw (is a) at (c .normal .ensures))
+    (λ e. c .before .before .before .if1 .left (e ∙ sym (ap (λ (l : Layout). l .infinite) (is a)))) (a .before .pre .1 .0)
+    (rw (is a) at (c .normal .ensures))
 
 normal-requires-2 : tie.Need-normal-requires-2
 normal-requires-2 c κs = let h = at-low (c .before .before .before .before) (c .if3 .taken) in (h .some, (h .few, (h .at-least, h .most)))
@@ -62,7 +63,8 @@ normal-requires-2 c κs = let h = at-low (c .before .before .before .before) (c 
 returns-3 : tie.Need-returns-3
 returns-3 c =
     let a = c .before .before .before .before .before in
-    stands-low (f a) (a .before .args .negative) (x a) (t a) (c .normal2 .result) (c .before .before .if2 .left) (a .before .pre .1 .0) (rw (is a) at (c .normal2 .ensures))
+    stands-low (f a) (a .before .args .negative) (x a) (t a) (c .normal2 .result) (c .before .before .if2 .left)
+    (a .before .pre .1 .0) (rw (is a) at (c .normal2 .ensures))
 
 returns-4 : tie.Need-returns-4
 returns-4 c =

@@ -27,7 +27,9 @@ of-fields-requires : tie.Need-of-fields-requires
 of-fields-requires c κs = fields-in binary32 (c .before .args .x) (held (c .before)) (equals-itself (c .before .args .x) (c .if1 .left))
 
 returns-2 : tie.Need-returns-2
-returns-2 c = subst (λ (y : Float). TakenApart binary32 y (c .of-fields .result)) (fields-are binary32 (c .before .before .args .x) (held (c .before .before))) (c .of-fields .ensures)
+returns-2 c =
+    subst (λ (y : Float). TakenApart binary32 y (c .of-fields .result))
+    (fields-are binary32 (c .before .before .args .x) (held (c .before .before))) (c .of-fields .ensures)
 
 pub take-apart32-spec : {M : Type 1} → statement M
 take-apart32-spec = tie.close (tie.spec returns float-to-bits-b cast-b of-fields-requires returns-2)

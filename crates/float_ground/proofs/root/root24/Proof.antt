@@ -62,9 +62,16 @@ returns c =
     let e = start a .args .n .exponent in
     let t = c .told .result in
     let most : t * 2 ^ 29 < 2 ^ 64 = omega (arith, told-in (q a) (n (start a) - q a * q a) t (c .told .ensures) .1, q-lt a) in
-    rooted binary32 (start a .args .n) (record { negative = false; exponent = e / 2 + 537; significand = t * 2 ^ 29 % 2 ^ 64 }) (n (start a)) (e / 2 + 568) (q a) t
-    (omega (arith, start a .pre .tidy .at-least)) (root a) (root-ge (2 ^ 23) (q a) (n (start a)) (of-n (start a) .at-least) (root a)) (q-lt a) (c .told .ensures)
-    (omega (arith, start a .pre .least)) (scale (start a .args .n .significand) e (n (start a)) (8 - e % 2) (e / 2 + 568) (of-n (start a) .exact) (omega arith))
+    rooted binary32 (start a .args .n) (record {
+      negative =
+          false;
+      exponent = e / 2 + 537;
+      significand = t * 2 ^ 29 % 2 ^ 64;
+    }) (n (start a)) (e / 2 + 568) (q a) t
+    (omega (arith, start a .pre .tidy .at-least)) (root a)
+    (root-ge (2 ^ 23) (q a) (n (start a)) (of-n (start a) .at-least) (root a)) (q-lt a) (c .told .ensures)
+    (omega (arith, start a .pre .least)) (scale (start a .args .n .significand) e (n (start a)) (8 - e % 2) (e / 2 + 568)
+    (of-n (start a) .exact) (omega arith))
     (mod-eq-of-lt most) (omega arith) (omega (arith, start a .pre .tidy .room))
 
 pub root24-spec : {M : Type 1} → statement M

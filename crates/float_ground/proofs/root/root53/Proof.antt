@@ -90,7 +90,8 @@ told-requires c κs = q-lt (c .before)
 -- of the upper half, then of the whole radicand
 scale-whole : (m e n k : ℕ) → m * 2 ^ e * 2 ^ 1128 ≡ n * (2 ^ (k + 26) * 2 ^ (k + 26)) → m * 2 ^ e * 2 ^ 1128 ≡ n * 2 ^ 52 * (2 ^ k * 2 ^ k)
 scale-whole m e n k x =
-    x ∙ ap (λ (y : ℕ). n * y) (sym (pow-add 2 (k + 26) (k + 26)) ∙ ap (λ (y : ℕ). 2 ^ y) same ∙ pow-add 2 52 (k + k) ∙ ap (λ (y : ℕ). 2 ^ 52 * y) (pow-add 2 k k)) ∙ sym (mul-assoc n (2 ^ 52) (2 ^ k * 2 ^ k))
+    x ∙ ap (λ (y : ℕ). n * y) (sym (pow-add 2 (k + 26) (k + 26)) ∙ ap (λ (y : ℕ). 2 ^ y) same ∙ pow-add 2 52 (k + k)
+    ∙ ap (λ (y : ℕ). 2 ^ 52 * y) (pow-add 2 k k)) ∙ sym (mul-assoc n (2 ^ 52) (2 ^ k * 2 ^ k))
   where
     same : k + 26 + (k + 26) ≡ 52 + (k + k)
     same = omega arith
@@ -103,8 +104,10 @@ returns c =
     let t = c .told .result in
     rooted binary64 (b .args .n) (record { negative = false; exponent = e / 2 + 537; significand = t }) (N a) (e / 2 + 539) (q a) t
     (omega (arith, b .pre .tidy .at-least)) (root a) (q-ge a) (q-lt a) (subst (λ (x : ℕ). Told (q a) x t) (rest-is a) (c .told .ensures))
-    (omega arith) (scale-whole (b .args .n .significand) e (n b) (e / 2 + 539) (scale (b .args .n .significand) e (n b) (2 - e % 2) (e / 2 + 539 + 26) (of-n b .exact) (omega arith)))
+    (omega arith) (scale-whole (b .args .n .significand) e (n b) (e / 2 + 539)
+    (scale (b .args .n .significand) e (n b) (2 - e % 2) (e / 2 + 539 + 26) (of-n b .exact) (omega arith)))
     (sym (mul-one t)) (omega arith) (omega (arith, b .pre .tidy .room))
 
 pub root53-spec : {M : Type 1} → statement M
-root53-spec = tie.close (tie.spec sub-upper shr-upper guess-root-requires root-from-requires mul-extend sub-extend extend-requires add-t7 told-requires returns)
+root53-spec =
+    tie.close (tie.spec sub-upper shr-upper guess-root-requires root-from-requires mul-extend sub-extend extend-requires add-t7 told-requires returns)

@@ -10,7 +10,8 @@ use Rattle.float_ground.proofs.root.root_to.Statement.{statement}
 use Rattle.float_ground.proofs.root.root_to.Tie as tie
 
 -- what was taken apart and the pattern, by what they are
-by : (c : tie.Start) (a : Apart) (p q : Pattern) → c .args .a ≡ a → q ≡ p → RootTo (formatOf (c .args .w)) a p → RootTo (formatOf (c .args .w)) (c .args .a) q
+by : (c : tie.Start) (a : Apart) (p q : Pattern) → c .args .a ≡ a → q ≡ p → RootTo (formatOf (c .args .w)) a p →
+    RootTo (formatOf (c .args .w)) (c .args .a) q
 by c a p q e h r = rw (e, h) r
 
 -- the number at hand
@@ -61,7 +62,8 @@ returns-3 c = rw (c .enum-told .given .1) (root-nan (formatOf (c .before .before
 returns-4 : tie.Need-returns-4
 returns-4 c =
     let s = c .before .before .before .before .before in
-    by s _ _ (c .infinite .result) (c .before .before .before .a .given .1 ∙ ap Infinite (c .before .if1 .left)) (c .infinite .ensures) (root-infinite (formatOf (s .args .w)))
+    by s _ _ (c .infinite .result) (c .before .before .before .a .given .1 ∙ ap Infinite (c .before .if1 .left))
+    (c .infinite .ensures) (root-infinite (formatOf (s .args .w)))
 
 returns-5 : tie.Need-returns-5
 returns-5 c =
@@ -75,7 +77,8 @@ returns-6 c =
     let s = e .before .before .before .before in
     let a = e .before .before .a3 in
     by s _ _ (c .signed2 .result) (a .given .1) (c .signed2 .ensures)
-    (root-number (formatOf (s .args .w)) (a .given .0 .0) (c .before .before .root-digits .result) (c .before .pack .result) (e .if2 .left) (c .before .before .root-digits .ensures) (c .before .pack .ensures))
+    (root-number (formatOf (s .args .w)) (a .given .0 .0) (c .before .before .root-digits .result) (c .before .pack .result)
+    (e .if2 .left) (c .before .before .root-digits .ensures) (c .before .pack .ensures))
 
 pub root-to-spec : {M : Type 1} → statement M
 root-to-spec =

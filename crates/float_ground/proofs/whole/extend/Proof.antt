@@ -33,10 +33,22 @@ sub-t16 : tie.Need-sub-t16
 sub-t16 c = omega (arith, root-ge (c .before .args .s) (c .before .args .rest) (c .before .pre .0) (c .before .pre .1 .0) (c .before .pre .1 .1))
 
 add-t17 : tie.Need-add-t17
-add-t17 c = omega (arith, root-lt (c .before .args .s) (c .before .args .rest) (c .before .pre .0) (c .before .pre .1 .0) (c .before .pre .1 .1), v-le (c .before .args .s) (c .before .args .rest) (c .before .pre .0) (c .before .pre .1 .0) (c .before .pre .1 .1))
+add-t17 c =
+    omega (
+      arith,
+      root-lt (c .before .args .s) (c .before .args .rest) (c .before .pre .0) (c .before .pre .1 .0)
+          (c .before .pre .1 .1),
+      v-le (c .before .args .s) (c .before .args .rest) (c .before .pre .0) (c .before .pre .1 .0) (c .before .pre .1 .1),
+    )
 
 sub-t18 : tie.Need-sub-t18
-sub-t18 c = omega (arith, root-ge (c .before .args .s) (c .before .args .rest) (c .before .pre .0) (c .before .pre .1 .0) (c .before .pre .1 .1), qq-le (c .before .args .s) (c .before .args .rest) (c .before .pre .0) (c .before .pre .1 .0) (c .before .pre .1 .1))
+sub-t18 c =
+    omega (
+      arith,
+      root-ge (c .before .args .s) (c .before .args .rest) (c .before .pre .0) (c .before .pre .1 .0)
+          (c .before .pre .1 .1),
+      qq-le (c .before .args .s) (c .before .args .rest) (c .before .pre .0) (c .before .pre .1 .0) (c .before .pre .1 .1),
+    )
 
 returns : tie.Need-returns
 returns c = enough (c .before .args .s) (c .before .args .rest) (c .before .pre .0) (c .before .pre .1 .0) (c .before .pre .1 .1) (c .if1 .taken)

@@ -18,7 +18,8 @@ add-b-2 : tie.Need-add-b-2
 add-b-2 c = search needs
 
 float-from-bits-x : tie.Need-float-from-bits-x
-float-from-bits-x c = let small : (1022 + c .args .odd) * 4503599627370496 + c .args .m / 4 ≤ 2047 * 4503599627370496 = omega arith in plain-small binary64 _ small
+float-from-bits-x c =
+    let small : (1022 + c .args .odd) * 4503599627370496 + c .args .m / 4 ≤ 2047 * 4503599627370496 = omega arith in plain-small binary64 _ small
 
 sub-y : tie.Need-sub-y
 sub-y c = search needs

@@ -27,7 +27,13 @@ module _ (n r w : ℕ) (i : Within n r w) (l : 1 < w) where
 
   upper : (r + w / 2) * (r + w / 2) ≤ n → Within n (r + w / 2) (w - w / 2)
   upper h =
-      record { from = h; to = subst (λ (x : ℕ). n < x * x) (sym join) (i .to); end = subst (λ (x : ℕ). x ≤ 2 ^ 27) (sym join) (i .end); some = omega arith }
+      record {
+        from =
+            h;
+        to = subst (λ (x : ℕ). n < x * x) (sym join) (i .to);
+        end = subst (λ (x : ℕ). x ≤ 2 ^ 27) (sym join) (i .end);
+        some = omega arith;
+      }
     where
       join : r + w / 2 + (w - w / 2) ≡ r + w
       join = omega arith
@@ -42,7 +48,8 @@ add-t : tie.Need-add-t Inv-loop μ-loop
 add-t c = omega arith
 
 mul-if1 : tie.Need-mul-if1 Inv-loop μ-loop
-mul-if1 c = omega (arith, square-le (c .before .before .args .n) (c .before .loop .r) (c .before .loop .w) (c .before .loop .inv) (c .loop-test .taken))
+mul-if1 c =
+    omega (arith, square-le (c .before .before .args .n) (c .before .loop .r) (c .before .loop .w) (c .before .loop .inv) (c .loop-test .taken))
 
 sub-w : tie.Need-sub-w Inv-loop μ-loop
 sub-w c = omega arith
@@ -65,8 +72,11 @@ loop-again-2 c =
 
 returns : tie.Need-returns Inv-loop μ-loop
 returns c =
-    let l = c .before in
-    (l .loop .inv .from, subst (λ (x : ℕ). l .before .args .n < (l .loop .r + x) * (l .loop .r + x)) (one (l .loop .w) (c .loop-test .left) (l .loop .inv .some)) (l .loop .inv .to))
+    let l = c .before in (
+      l .loop .inv .from,
+      subst (λ (x : ℕ). l .before .args .n < (l .loop .r + x) * (l .loop .r + x))
+          (one (l .loop .w) (c .loop-test .left) (l .loop .inv .some)) (l .loop .inv .to),
+    )
   where
     one : (w : ℕ) → w ≤ 1 → 0 < w → w ≡ 1
     one w a b = omega arith

@@ -12,7 +12,8 @@ returns : tie.Need-returns
 returns c =
     let a = c .before .before .before .before .before .before .before .before .before .args in
     let found = c .before .before .before .before .before .c .given in
-    let told = was-made (a .src .now) (a .weight) (found .0 .0) (sym (c .before .before .before .before .before .before .before .from-points .ensures .answer) ∙ found .1) in
+    let told = was-made (a .src .now) (a .weight) (found .0 .0)
+    (sym (c .before .before .before .before .before .before .before .from-points .ensures .answer) ∙ found .1) in
     let done = c .before .before .before .compute .ensures in
     rw (told .0, ← told .1, ← done .answer, ← done .points) (c .give-cut .ensures)
 
@@ -21,7 +22,8 @@ returns-2 : tie.Need-returns-2
 returns-2 c =
     let a = c .before .before .before .before .before .before .args in
     let found = c .before .before .why .given in
-    let told = was-refused (a .src .now) (a .weight) (found .0 .0) (sym (c .before .before .before .before .from-points .ensures .answer) ∙ found .1) in
+    let told = was-refused (a .src .now) (a .weight) (found .0 .0)
+    (sym (c .before .before .before .before .from-points .ensures .answer) ∙ found .1) in
     rw (told .0) (c .number .ensures ∙ ap (λ (r : Refusal). numberOf r) (told .1), (refl, refl))
 
 pub nz-auto-conic-to-quads-spec : {M : Type 1} → statement M

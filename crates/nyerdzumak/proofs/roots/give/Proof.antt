@@ -14,4 +14,6 @@ returns-3 : tie.Need-returns-3
 returns-3 c = (c .before .before .before .count .ensures, rw (c .before .found2 .given .1) refl)
 
 pub give-spec : {M : Type 1} → statement M
-give-spec = tie.close (tie.spec (λ c κs. tt) (λ c. search needs) (λ c. search needs) (λ c. search needs) (λ c. search needs) (λ c. search needs) (λ c. search needs) returns returns-2 returns-3)
+give-spec =
+    tie.close (tie.spec (λ c κs. tt) (λ c. search needs) (λ c. search needs) (λ c. search needs) (λ c. search needs)
+    (λ c. search needs) (λ c. search needs) returns returns-2 returns-3)

@@ -17,4 +17,6 @@ returns-4 : tie.Need-returns-4
 returns-4 c = (c .before .before .number .ensures, rw (c .enum-told2 .given .1) (refl, refl))
 
 pub give-inflections-spec : {M : Type 1} → statement M
-give-inflections-spec = tie.close (tie.spec (λ c κs. tt) (λ c. search needs) (λ c. search needs) (λ c. search needs) (λ c. search needs) (λ c. search needs) (λ c. search needs) (λ c. search needs) returns returns-2 returns-3 returns-4)
+give-inflections-spec =
+    tie.close (tie.spec (λ c κs. tt) (λ c. search needs) (λ c. search needs) (λ c. search needs) (λ c. search needs)
+    (λ c. search needs) (λ c. search needs) (λ c. search needs) returns returns-2 returns-3 returns-4)

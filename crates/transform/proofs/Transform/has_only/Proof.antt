@@ -5,4 +5,6 @@ use Rattle.transform.proofs.Transform.has_only.Tie as tie
 
 pub has-only-spec : {M : Type 1} → statement M
 unfolding hasOnly
-has-only-spec = tie.close (tie.spec (λ c κs. tt) (λ c κs. tt) (λ c κs. tt) (λ c. rw (← c .before .before .has-scale .ensures, ← c .before .has-skew .ensures, ← c .has-translate .ensures)))
+has-only-spec =
+    tie.close (tie.spec (λ c κs. tt) (λ c κs. tt) (λ c κs. tt)
+    (λ c. rw (← c .before .before .has-scale .ensures, ← c .before .has-skew .ensures, ← c .has-translate .ensures)))

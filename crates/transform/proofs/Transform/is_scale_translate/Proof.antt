@@ -5,4 +5,6 @@ use Rattle.transform.proofs.Transform.is_scale_translate.Tie as tie
 
 pub is-scale-translate-spec : {M : Type 1} → statement M
 unfolding isScaleTranslate
-is-scale-translate-spec = tie.close (tie.spec (λ c κs. tt) (λ c κs. tt) (λ c κs. tt) (λ c. rw (← c .before .before .has-scale .ensures, ← c .before .has-translate .ensures, ← c .has-skew .ensures)))
+is-scale-translate-spec =
+    tie.close (tie.spec (λ c κs. tt) (λ c κs. tt) (λ c κs. tt)
+    (λ c. rw (← c .before .before .has-scale .ensures, ← c .before .has-translate .ensures, ← c .has-skew .ensures)))

@@ -13,7 +13,13 @@ returns-2 c = rw (← c .before .before .before .is-identity .ensures, c .before
 
 returns-3 : tie.Need-returns-3
 unfolding concatOf
-returns-3 c = rw (← c .before .before .before .before .is-identity .ensures, c .before .before .before .if1 .left, ← c .before .before .is-identity2 .ensures, c .before .if2 .left) (c .product .ensures)
+returns-3 c =
+    rw (
+      ← c .before .before .before .before .is-identity .ensures,
+      c .before .before .before .if1 .left,
+      ← c .before .before .is-identity2 .ensures,
+      c .before .if2 .left,
+    ) (c .product .ensures)
 
 pub concat-spec : {M : Type 1} → statement M
 concat-spec = tie.close (tie.spec (λ c κs. tt) returns (λ c κs. tt) returns-2 (λ c κs. tt) returns-3)

@@ -4,4 +4,11 @@ use Rattle.transform.proofs.concat.mul_add_mul.Statement.{statement}
 use Rattle.transform.proofs.concat.mul_add_mul.Tie as tie
 
 pub mul-add-mul-spec : {M : Type 1} → statement M
-mul-add-mul-spec = tie.close (tie.spec (λ c κs. tt) (λ c κs. tt) (λ c κs. tt) (λ c κs. tt) (λ c κs. tt) (λ c. c .narrow .ensures ∙ rw (c .before .before .before .before .widen .ensures, c .before .before .before .widen2 .ensures, c .before .before .widen3 .ensures, c .before .widen4 .ensures)))
+mul-add-mul-spec =
+    tie.close (tie.spec (λ c κs. tt) (λ c κs. tt) (λ c κs. tt) (λ c κs. tt) (λ c κs. tt)
+    (λ c. c .narrow .ensures ∙ rw (
+      c .before .before .before .before .widen .ensures,
+      c .before .before .before .widen2 .ensures,
+      c .before .before .widen3 .ensures,
+      c .before .widen4 .ensures,
+    )))

@@ -6,4 +6,13 @@ use Rattle.transform.proofs.concat.skewed.Tie as tie
 
 pub skewed-spec : {M : Type 1} → statement M
 unfolding skewedProduct
-skewed-spec = tie.close (tie.spec (λ c κs. tt) (λ c κs. tt) (λ c κs. tt) (λ c κs. tt) (λ c κs. tt) (λ c κs. tt) (λ c κs. tt) (λ c. c .from-row .ensures ∙ rw (c .before .before .before .before .before .before .before .before .mul-add-mul .ensures, c .before .before .before .before .before .before .before .mul-add-mul2 .ensures, c .before .before .before .before .before .before .mul-add-mul3 .ensures, c .before .before .before .before .before .mul-add-mul4 .ensures, c .before .before .before .before .mul-add-mul5 .ensures, c .before .before .mul-add-mul6 .ensures)))
+skewed-spec =
+    tie.close (tie.spec (λ c κs. tt) (λ c κs. tt) (λ c κs. tt) (λ c κs. tt) (λ c κs. tt) (λ c κs. tt) (λ c κs. tt)
+    (λ c. c .from-row .ensures ∙ rw (
+      c .before .before .before .before .before .before .before .before .mul-add-mul .ensures,
+      c .before .before .before .before .before .before .before .mul-add-mul2 .ensures,
+      c .before .before .before .before .before .before .mul-add-mul3 .ensures,
+      c .before .before .before .before .before .mul-add-mul4 .ensures,
+      c .before .before .before .before .mul-add-mul5 .ensures,
+      c .before .before .mul-add-mul6 .ensures,
+    )))

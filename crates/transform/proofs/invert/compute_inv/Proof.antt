@@ -6,4 +6,13 @@ use Rattle.transform.proofs.invert.compute_inv.Tie as tie
 
 pub compute-inv-spec : {M : Type 1} → statement M
 unfolding skewedInverse
-compute-inv-spec = tie.close (tie.spec (λ c κs. tt) (λ c κs. tt) (λ c κs. tt) (λ c κs. tt) (λ c κs. tt) (λ c κs. tt) (λ c κs. tt) (λ c. c .from-row .ensures ∙ rw (c .before .before .before .before .before .before .before .before .dscale .ensures, c .before .before .before .before .before .before .dscale2 .ensures, c .before .before .before .before .dscale3 .ensures, c .before .before .before .dscale4 .ensures, c .before .before .dcross-dscale .ensures, c .before .dcross-dscale2 .ensures)))
+compute-inv-spec =
+    tie.close (tie.spec (λ c κs. tt) (λ c κs. tt) (λ c κs. tt) (λ c κs. tt) (λ c κs. tt) (λ c κs. tt) (λ c κs. tt)
+    (λ c. c .from-row .ensures ∙ rw (
+      c .before .before .before .before .before .before .before .before .dscale .ensures,
+      c .before .before .before .before .before .before .dscale2 .ensures,
+      c .before .before .before .before .dscale3 .ensures,
+      c .before .before .before .dscale4 .ensures,
+      c .before .before .dcross-dscale .ensures,
+      c .before .dcross-dscale2 .ensures,
+    )))

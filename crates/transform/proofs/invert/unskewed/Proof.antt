@@ -5,7 +5,11 @@ use Rattle.transform.proofs.invert.unskewed.Tie as tie
 
 returns : tie.Need-returns
 unfolding unskewedInverse
-returns c = rw (← c .before .before .before .before .before .before .has-scale .ensures, c .before .before .before .before .before .if1 .taken) (c .from-row .ensures)
+returns c =
+    rw (
+      ← c .before .before .before .before .before .before .has-scale .ensures,
+      c .before .before .before .before .before .if1 .taken,
+    ) (c .from-row .ensures)
 
 returns-2 : tie.Need-returns-2
 unfolding unskewedInverse
