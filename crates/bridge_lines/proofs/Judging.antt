@@ -1,8 +1,8 @@
 -- Laws on what is wrong with a line: how one word after the other is judged, and where that ends. Assumes nothing.
-use mathlib.Core.Path.{_≡_, refl, sym, ap, _∙_}
-use mathlib.Core.Bool.{Bool, true, false, cond}
+use mathlib.Core.Path.{_≡_, refl, ap}
+use mathlib.Core.Bool.{Bool, true, false}
 use mathlib.Core.List.{List, [], _∷_}
-use Prim.Native.Nat.{ℕ, suc, _+_, _≤_, _<_}
+use Prim.Native.Nat.{ℕ, _+_, _≤_, _<_}
 use native.Mathlib.Numerals.{add-one}
 use native.Mathlib.Omega.{arith}
 use borrow.Author.Tests.{lt-ltb, le-ltb, ltb-true, ltb-false}
@@ -16,7 +16,8 @@ use Rattle.bridge_lines.specs.Words.{wordsOf}
 use Rattle.bridge_lines.proofs.Split.{no-empty}
 
 -- an empty word is past the last one
-past-by : (t : Bool) (l : List ℕ) (k : ℕ) → ltb k (length (wordsOf l)) ≡ t → length (getD (wordsOf l) k []) ≡ 0 → length (wordsOf l) ≤ k
+past-by : (t : Bool) (l : List ℕ) (k : ℕ) → ltb k (length (wordsOf l)) ≡ t → length (getD (wordsOf l) k []) ≡ 0 →
+    length (wordsOf l) ≤ k
 past-by true l k e h = omega (arith, ltb-true k (length (wordsOf l)) e, no-empty l k (ltb-true k (length (wordsOf l)) e))
 past-by false l k e h = ltb-false k (length (wordsOf l)) e
 

@@ -1,6 +1,6 @@
 -- Laws on the number that digits make: more digits make no smaller one, so that it can be held at a bound. Assumes nothing.
-use mathlib.Core.Path.{_≡_, refl, sym, ap, _∙_}
-use mathlib.Core.Bool.{Bool, true, false, cond, _&&_}
+use mathlib.Core.Path.{_≡_, refl, sym}
+use mathlib.Core.Bool.{Bool, true, false, cond, _&&_, true≢false}
 use mathlib.Core.List.{List, [], _∷_}
 use Prim.Native.Nat.{ℕ, zero, suc, _+_, _-_, _*_, _^_, _≤_, _<_, min}
 use native.Mathlib.Nat.{le-trans, lt-of-le-of-lt, min-eq-left, min-eq-right}
@@ -49,14 +49,8 @@ held m n l = held-by (leb n m) m n l refl
 
 both-by : (s t : Bool) → (s && t) ≡ true → (s ≡ true) × (t ≡ true)
 both-by true true e = (refl, refl)
-both-by true false e = let z : _≡_ {A = ℕ} 0 1 = cc in absurd (no z)
-  where
-    no : _≡_ {A = ℕ} 0 1 → ⊥
-    no z = omega arith
-both-by false t e = let z : _≡_ {A = ℕ} 0 1 = cc in absurd (no z)
-  where
-    no : _≡_ {A = ℕ} 0 1 → ⊥
-    no z = omega arith
+both-by true false e = absurd (true≢false (sym e))
+both-by false t e = absurd (true≢false (sym e))
 
 -- in range nothing is held
 pub ranged : (place : ℕ) (w : List ℕ) → inRange place w ≡ true → (sizeOf w < 1000000000) × (length (decimals w) ≤ 6)

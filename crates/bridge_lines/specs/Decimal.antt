@@ -42,9 +42,13 @@ sizeAfter n (b ∷ l) = sizeAfter (cond (isDigit b) (10 * n + (b - 48)) n) l
 abbrev pub sizeOf : List ℕ → ℕ
 sizeOf w = sizeAfter 0 w
 
--- ± size / 10 ^ decimals, rounded once
+-- ten to the number of its decimals
+abbrev pub scaleOf : List ℕ → ℕ
+scaleOf w = 10 ^ length (decimals w)
+
+-- ± size / scale, rounded once
 unfoldable pub valueOf : List ℕ → Float
 unfolding sizeAfter from
 valueOf w =
-    let q = ofInt binary32 (pos (sizeOf w)) ⊘ ofInt binary32 (pos (10 ^ length (decimals w))) in
+    let q = ofInt binary32 (pos (sizeOf w)) ⊘ ofInt binary32 (pos (scaleOf w)) in
     cond (isNegative w) (neg q) q

@@ -14,7 +14,7 @@ use Rattle.bridge_lines.specs.declared.Line.the-variants.{Good, Blank, B
 use Rattle.bridge_lines.specs.Decimal.{unsigned, isWhole, isDecimal, decimals, sizeOf, valueOf}
 use Rattle.bridge_lines.specs.Words.{isHash, before, wordsOf}
 
--- what a word is at its place: a coordinate from 1 to 6, the weight at 7, the level at 8
+-- what a word has to be at its place: a coordinate from 1 to 6, the weight at 7, the level at 8
 abbrev pub hasForm : ℕ → List ℕ → Bool
 hasForm place w =
     cond (ltb place 7) (isWhole (unsigned w)) (cond (ltb place 8) (isDecimal (unsigned w)) (isWhole w))
@@ -23,6 +23,7 @@ hasForm place w =
 abbrev pub limitOf : ℕ → ℕ
 limitOf place = cond (ltb place 7) 16777216 (cond (ltb place 8) 9999999 999999999)
 
+-- no larger, and at most 6 decimals
 abbrev pub inRange : ℕ → List ℕ → Bool
 inRange place w = leb (sizeOf w) (limitOf place) && leb (length (decimals w)) 6
 

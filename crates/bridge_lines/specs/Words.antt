@@ -30,12 +30,12 @@ unfoldable pub from : (ℕ → Bool) → List ℕ → List ℕ
 from p [] = []
 from p (b ∷ l) = cond (p b) (b ∷ l) (from p l)
 
--- w and then the words ws; no word is empty
+-- the word w and then the words ws; no word is empty
 unfoldable pub ahead : List ℕ → List (List ℕ) → List (List ℕ)
 ahead [] ws = ws
 ahead (b ∷ w) ws = (b ∷ w) ∷ ws
 
--- the words of l, where w is what stands before l of the first of them
+-- the words of l, where w is a word that has begun before it
 unfoldable pub wordsAfter : List ℕ → List ℕ → List (List ℕ)
 unfolding ahead
 wordsAfter w [] = ahead w []

@@ -1,5 +1,5 @@
 -- `decimal::is_decimal` meets its contract: the three parts are those that the definition names. Assumes nothing.
-use mathlib.Core.Path.{_≡_, refl}
+use mathlib.Core.Path.{_≡_}
 use mathlib.Core.List.{List}
 use Prim.Native.Nat.{ℕ, _-_}
 use native.Mathlib.Omega.{arith}
@@ -42,7 +42,13 @@ returns c =
     let w : List ℕ = c .before .before .before .before .before .before .before .args .w .now in
     let e : ℕ = c .before .before .before .before .before .first .result in
     let p : take (e - 0) (drop 0 w) ≡ before isPoint w = part (isOf Point) w 0 e (c .before .before .before .before .before .first .ensures .1) in
-    rw (c .before .before .before .before .is-whole .ensures, c .before .before .is-whole2 .ensures, c .is-whole3 .ensures, c .before .past-point .ensures, p)
+    rw (
+      c .before .before .before .before .is-whole .ensures,
+      c .before .before .is-whole2 .ensures,
+      c .is-whole3 .ensures,
+      c .before .past-point .ensures,
+      p,
+    )
 
 pub is-decimal-spec : {M : Type 1} → statement M
 is-decimal-spec =

@@ -1,6 +1,7 @@
 -- `reading::bridge` meets its contract: each number is that of its word, and the level is not held. Assumes nothing.
 use mathlib.Core.Path.{_≡_}
-use Prim.Native.Nat.{_<_}
+use mathlib.Core.List.{List}
+use Prim.Native.Nat.{ℕ, _<_}
 use native.Mathlib.Omega.{arith}
 use lib.Dec.{lit<}
 use Rattle.bridge_lines.specs.Decimal.{sizeOf}
@@ -38,9 +39,10 @@ size-requires c κs = search needs
 
 returns : tie.Need-returns
 returns c =
-    let r : sizeOf (c .before .word .result .now) < 1000000000 =
-    ranged 8 (c .before .word .result .now) (rw (c .before .word .ensures) (c .before .before .before .before .before .before .before .before .before .before .pre 7 (lit< tt))) .0 in
-    let e : c .size .result ≡ sizeOf (c .before .word .result .now) = omega arith in
+    let a : tie.Start = c .before .before .before .before .before .before .before .before .before .before in
+    let w : List ℕ = c .before .word .result .now in
+    let r : sizeOf w < 1000000000 = ranged 8 w (rw (c .before .word .ensures) (a .pre 7 (lit< tt))) .0 in
+    let e : c .size .result ≡ sizeOf w = omega arith in
     cc
 
 pub bridge-spec : {M : Type 1} → statement M

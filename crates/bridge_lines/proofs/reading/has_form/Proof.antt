@@ -1,5 +1,4 @@
 -- `reading::has_form` meets its contract: each answer goes by the tests that led to it. Assumes nothing.
-use mathlib.Core.Path.{_∙_}
 use borrow.Author.Tests.{lt-ltb, le-ltb}
 use borrow.Author.Needs.{needs}
 use Rattle.bridge_lines.proofs.reading.has_form.Statement.{statement}

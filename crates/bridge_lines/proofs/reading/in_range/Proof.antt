@@ -17,11 +17,12 @@ past-point-requires c κs = search needs
 
 returns : tie.Need-returns
 returns c =
+    let a : tie.Start = c .before .before .before .before in
     rw (
       c .before .before .size .ensures,
       c .before .limit .ensures,
       c .past-point .ensures,
-      below 1000000000 (sizeOf (c .before .before .before .before .args .w .now)) (limitOf (c .before .before .before .before .args .place)) (limit-below (c .before .before .before .before .args .place)),
+      below 1000000000 (sizeOf (a .args .w .now)) (limitOf (a .args .place)) (limit-below (a .args .place)),
     )
 
 pub in-range-spec : {M : Type 1} → statement M

@@ -1,6 +1,6 @@
 -- `reading::line` meets its contract: at each turn the words before are in range, and those left lead to what the line comes to. Assumes nothing.
 use mathlib.Core.Path.{_≡_, sym, ap, _∙_}
-use mathlib.Core.Bool.{true, false}
+use mathlib.Core.Bool.{Bool, true, false}
 use mathlib.Core.List.{List, [], _∷_}
 use Prim.Native.Nat.{ℕ, _+_, _-_, _≤_, _<_}
 use native.Mathlib.Omega.{arith}
@@ -29,6 +29,40 @@ Inv-loop text k₀ k =
 abbrev μ-loop : tie.MeasureT-loop
 μ-loop text k₀ k = 8 - k
 
+-- ---- in the loop, past the word at hand
+
+abbrev At : Type 0
+At = tie.After-word2 Inv-loop μ-loop
+
+abbrev words : At → List (List ℕ)
+words b = wordsOf (b .before .before .before .before .before .before .args .text .now)
+
+-- how many were right before it
+abbrev passed : At → ℕ
+passed b = b .before .before .loop .k
+
+abbrev word : At → List ℕ
+word b = getD (words b) (passed b) []
+
+few : (b : At) → passed b < 8
+few b = omega arith
+
+known : (b : At) → judged (passed b + 1) (drop (passed b) (words b)) (Good (bridgeOf (words b))) ≡ lineOf (words b)
+known b = b .before .before .loop .inv .1 .1
+
+-- where it is not empty
+more : (c : tie.Else2 Inv-loop μ-loop) →
+    drop (passed (c .before)) (words (c .before)) ≡ word (c .before) ∷ drop (passed (c .before) + 1) (words (c .before))
+more c = goes (words (c .before)) (passed (c .before)) (rw (c .before .word2 .ensures) at (c .if2 .left))
+
+formed : (c : tie.After-has-form Inv-loop μ-loop) (t : Bool) → c .has-form .result ≡ t →
+    hasForm (passed (c .before .before) + 1) (word (c .before .before)) ≡ t
+formed c t e = rw (← c .before .before .word2 .ensures) (sym (c .has-form .ensures) ∙ e)
+
+ranged : (c : tie.After-in-range Inv-loop μ-loop) (t : Bool) → c .in-range .result ≡ t →
+    inRange (passed (c .before .before .before .before) + 1) (word (c .before .before .before .before)) ≡ t
+ranged c t e = rw (← c .before .before .before .before .word2 .ensures) (sym (c .in-range .ensures) ∙ e)
+
 word-requires : tie.Need-word-requires Inv-loop μ-loop
 word-requires c κs = tt
 
@@ -50,12 +84,9 @@ add-t9 c = omega arith
 
 returns-2 : tie.Need-returns-2 Inv-loop μ-loop
 returns-2 c =
-    let text : List ℕ = c .before .before .before .before .before .before .before .args .text .now in
-    let k : ℕ = c .before .before .before .loop .k in
-    let w : c .before .word2 .result .now ≡ getD (wordsOf text) k [] = c .before .word2 .ensures in
-    let j : judged (k + 1) (drop k (wordsOf text)) (Good (bridgeOf (wordsOf text))) ≡ lineOf (wordsOf text) = c .before .before .before .loop .inv .1 .1 in
-    let h : k < 8 = omega arith in
-    too-few (wordsOf text) k j h (ends text k (rw w at (c .if2 .taken)))
+    let b : At = c .before in
+    too-few (words b) (passed b) (known b) (few b)
+    (ends (b .before .before .before .before .before .before .args .text .now) (passed b) (rw (b .word2 .ensures) at (c .if2 .taken)))
 
 add-has-form : tie.Need-add-has-form Inv-loop μ-loop
 add-has-form c = omega arith
@@ -68,15 +99,9 @@ add-t13 c = omega arith
 
 returns-3 : tie.Need-returns-3 Inv-loop μ-loop
 returns-3 c =
-    let text : List ℕ = c .before .before .before .before .before .before .before .before .before .args .text .now in
-    let k : ℕ = c .before .before .before .before .before .loop .k in
-    let w : c .before .before .before .word2 .result .now ≡ getD (wordsOf text) k [] = c .before .before .before .word2 .ensures in
-    let j : judged (k + 1) (drop k (wordsOf text)) (Good (bridgeOf (wordsOf text))) ≡ lineOf (wordsOf text) = c .before .before .before .before .before .loop .inv .1 .1 in
-    let h : k < 8 = omega arith in
-    let e : drop k (wordsOf text) ≡ getD (wordsOf text) k [] ∷ drop (k + 1) (wordsOf text) = goes (wordsOf text) k (rw w at (c .before .before .if2 .left)) in
-    let f : hasForm (k + 1) (getD (wordsOf text) k []) ≡ false =
-    rw (← w) (sym (c .before .has-form .ensures) ∙ not-true (c .before .has-form .result) (c .if3 .taken)) in
-    no-number (wordsOf text) k j h e f
+    let b : At = c .before .before .before in
+    no-number (words b) (passed b) (known b) (few b) (more (c .before .before))
+    (formed (c .before) false (not-true (c .before .has-form .result) (c .if3 .taken)))
 
 add-in-range : tie.Need-add-in-range Inv-loop μ-loop
 add-in-range c = omega arith
@@ -89,17 +114,10 @@ add-t15 c = omega arith
 
 returns-4 : tie.Need-returns-4 Inv-loop μ-loop
 returns-4 c =
-    let text : List ℕ = c .before .before .before .before .before .before .before .before .before .before .before .args .text .now in
-    let k : ℕ = c .before .before .before .before .before .before .before .loop .k in
-    let w : c .before .before .before .before .before .word2 .result .now ≡ getD (wordsOf text) k [] = c .before .before .before .before .before .word2 .ensures in
-    let j : judged (k + 1) (drop k (wordsOf text)) (Good (bridgeOf (wordsOf text))) ≡ lineOf (wordsOf text) = c .before .before .before .before .before .before .before .loop .inv .1 .1 in
-    let h : k < 8 = omega arith in
-    let e : drop k (wordsOf text) ≡ getD (wordsOf text) k [] ∷ drop (k + 1) (wordsOf text) = goes (wordsOf text) k (rw w at (c .before .before .before .before .if2 .left)) in
-    let f : hasForm (k + 1) (getD (wordsOf text) k []) ≡ true =
-    rw (← w) (sym (c .before .before .before .has-form .ensures) ∙ not-false (c .before .before .before .has-form .result) (c .before .before .if3 .left)) in
-    let r : inRange (k + 1) (getD (wordsOf text) k []) ≡ false =
-    rw (← w) (sym (c .before .in-range .ensures) ∙ not-true (c .before .in-range .result) (c .if4 .taken)) in
-    out-of-range (wordsOf text) k j h e f r
+    let b : At = c .before .before .before .before .before in
+    out-of-range (words b) (passed b) (known b) (few b) (more (c .before .before .before .before))
+    (formed (c .before .before .before) true (not-false (c .before .before .before .has-form .result) (c .before .before .if3 .left)))
+    (ranged (c .before) false (not-true (c .before .in-range .result) (c .if4 .taken)))
 
 add-k : tie.Need-add-k Inv-loop μ-loop
 add-k c = omega arith
@@ -109,17 +127,16 @@ loop-less c = omega arith
 
 loop-again : tie.Need-loop-again Inv-loop μ-loop
 loop-again c =
-    let text : List ℕ = c .before .before .before .before .before .before .before .before .before .before .before .args .text .now in
-    let k : ℕ = c .before .before .before .before .before .before .before .loop .k in
-    let w : c .before .before .before .before .before .word2 .result .now ≡ getD (wordsOf text) k [] = c .before .before .before .before .before .word2 .ensures in
-    let j : judged (k + 1) (drop k (wordsOf text)) (Good (bridgeOf (wordsOf text))) ≡ lineOf (wordsOf text) = c .before .before .before .before .before .before .before .loop .inv .1 .1 in
-    let h : k < 8 = omega arith in
-    let e : drop k (wordsOf text) ≡ getD (wordsOf text) k [] ∷ drop (k + 1) (wordsOf text) = goes (wordsOf text) k (rw w at (c .before .before .before .before .if2 .left)) in
-    let f : hasForm (k + 1) (getD (wordsOf text) k []) ≡ true =
-    rw (← w) (sym (c .before .before .before .has-form .ensures) ∙ not-false (c .before .before .before .has-form .result) (c .before .before .if3 .left)) in
-    let r : inRange (k + 1) (getD (wordsOf text) k []) ≡ true =
-    rw (← w) (sym (c .before .in-range .ensures) ∙ not-false (c .before .in-range .result) (c .if4 .left)) in
-    (omega arith, (below-more _ _ (c .before .before .before .before .before .before .before .loop .inv .1 .0) r, right (wordsOf text) k j h e f r))
+    let b : At = c .before .before .before .before .before in
+    let r : inRange (passed b + 1) (word b) ≡ true = ranged (c .before) true (not-false (c .before .in-range .result) (c .if4 .left)) in (
+      omega arith,
+      (
+        below-more _ _ (b .before .before .loop .inv .1 .0) r,
+        right (words b) (passed b) (known b) (few b) (more (c .before .before .before .before))
+            (formed (c .before .before .before) true (not-false (c .before .before .before .has-form .result) (c .before .before .if3 .left)))
+            r,
+      ),
+    )
 
 word-requires-3 : tie.Need-word-requires-3 Inv-loop μ-loop
 word-requires-3 c κs = tt

@@ -1,12 +1,16 @@
 -- `reading::value` meets its contract: in range nothing is held, and the sign picks the quotient or its negative. Assumes nothing.
 use mathlib.Core.Path.{_≡_, sym, _∙_}
-use mathlib.Core.Bool.{true, false}
+use mathlib.Core.Bool.{Bool, true, false}
 use mathlib.Core.List.{List, []}
 use Prim.Native.Nat.{ℕ, _+_, _≤_, _<_, min}
 use native.Mathlib.Omega.{arith}
 use borrow.Author.Tests.{lt-ltb, le-ltb}
+use lib.Dec.{ltb}
+use lib.IntN.{pos}
+use lib.Ieee.{binary32, ofInt}
 use lib.ListN.{length, getD}
-use Rattle.bridge_lines.specs.Decimal.{isNegative, decimals, sizeOf, valueOf}
+use Rattle.float_laws.specs.Formula.{_⊘_}
+use Rattle.bridge_lines.specs.Decimal.{isNegative, decimals, sizeOf, scaleOf, valueOf}
 use Rattle.bridge_lines.specs.Words.{wordsOf}
 use Rattle.bridge_lines.proofs.Sizes.{ranged, signed, powers}
 use borrow.Author.Needs.{needs}
@@ -18,6 +22,43 @@ word a = getD (wordsOf (a .args .text .now)) (a .args .k) []
 
 in-range : (a : tie.Start) → (sizeOf (word a) < 1000000000) × (length (decimals (word a)) ≤ 6)
 in-range a = ranged (a .args .k + 1) (word a) (a .pre)
+
+few : (c : tie.After-past-point) → length (c .past-point .result .now) ≤ 6
+few c = rw (c .past-point .ensures, c .before .before .before .word .ensures) (in-range (c .before .before .before .before .before) .1)
+
+-- ---- past the last call, of `without_sign`
+
+abbrev at-word : tie.After-without-sign → tie.After-word
+at-word c = c .before .before .before .before .before
+
+abbrev this : tie.After-without-sign → List ℕ
+this c = word (at-word c .before .before)
+
+negative : (c : tie.After-without-sign) (t : Bool) →
+    ltb (length (c .without-sign .result .now)) (length (at-word c .word .result .now)) ≡ t → isNegative (this c) ≡ t
+negative c t e =
+    rw (← at-word c .word .ensures) (sym (signed (at-word c .word .result .now)) ∙ rw (← c .without-sign .ensures) e)
+
+size-is : (c : tie.After-without-sign) → c .before .before .before .before .size .result ≡ sizeOf (this c)
+size-is c =
+    let e : c .before .before .before .before .size .result ≡ min (sizeOf (this c)) 1000000000 =
+    rw (← at-word c .word .ensures) (c .before .before .before .before .size .ensures) in
+    omega (arith, in-range (at-word c .before .before) .0)
+
+decimals-are : (c : tie.After-without-sign) → c .before .before .past-point .result .now ≡ decimals (this c)
+decimals-are c = rw (← at-word c .word .ensures) (c .before .before .past-point .ensures)
+
+quotient : (c : tie.After-without-sign) →
+    c .before .before .before .nearest-u32-to-f32 .result ⊘ c .before .nearest-u32-to-f322 .result
+    ≡ ofInt binary32 (pos (sizeOf (this c))) ⊘ ofInt binary32 (pos (scaleOf (this c)))
+quotient c =
+    cc (
+      c .before .before .before .nearest-u32-to-f32 .ensures,
+      c .before .nearest-u32-to-f322 .ensures,
+      size-is c,
+      decimals-are c,
+      powers (length (decimals (this c))) (in-range (at-word c .before .before) .1),
+    )
 
 word-requires : tie.Need-word-requires
 word-requires c κs = search needs
@@ -32,16 +73,10 @@ past-point-requires : tie.Need-past-point-requires
 past-point-requires c κs = search needs
 
 mul-nearest-u32-to-f32 : tie.Need-mul-nearest-u32-to-f32
-mul-nearest-u32-to-f32 c =
-    let a : tie.Start = c .before .before .before .before .before in
-    let n : length (c .past-point .result .now) ≤ 6 = rw (c .past-point .ensures, c .before .before .before .word .ensures) (in-range a .1) in
-    omega arith
+mul-nearest-u32-to-f32 c = omega (arith, few c)
 
 array-read-nearest-u32-to-f32 : tie.Need-array-read-nearest-u32-to-f32
-array-read-nearest-u32-to-f32 c =
-    let a : tie.Start = c .before .before .before .before .before in
-    let n : length (c .past-point .result .now) ≤ 6 = rw (c .past-point .ensures, c .before .before .before .word .ensures) (in-range a .1) in
-    omega arith
+array-read-nearest-u32-to-f32 c = omega (arith, few c)
 
 nearest-u32-to-f32-requires-2 : tie.Need-nearest-u32-to-f32-requires-2
 nearest-u32-to-f32-requires-2 c κs = search needs
@@ -51,39 +86,11 @@ without-sign-requires c κs = search needs
 
 returns : tie.Need-returns
 unfolding valueOf
-returns c =
-    let a : tie.Start = c .before .before .before .before .before .before .before .before in
-    let w : c .before .before .before .before .before .before .word .result .now ≡ word a = c .before .before .before .before .before .before .word .ensures in
-    let s : c .before .before .before .before .before .size .result ≡ min (sizeOf (word a)) 1000000000 = rw (← w) (c .before .before .before .before .before .size .ensures) in
-    let n : c .before .before .before .before .before .size .result ≡ sizeOf (word a) = omega (arith, in-range a .0) in
-    let d : c .before .before .before .past-point .result .now ≡ decimals (word a) = rw (← w) (c .before .before .before .past-point .ensures) in
-    let t : isNegative (word a) ≡ true = rw (← w) (sym (signed (c .before .before .before .before .before .before .word .result .now)) ∙ rw (← c .before .without-sign .ensures) (lt-ltb _ _ (c .if1 .taken))) in
-    rw (
-      t,
-      c .before .before .before .before .nearest-u32-to-f32 .ensures,
-      c .before .before .nearest-u32-to-f322 .ensures,
-      n,
-      d,
-      powers (length (decimals (word a))) (in-range a .1),
-    )
+returns c = rw (negative (c .before) true (lt-ltb _ _ (c .if1 .taken)), quotient (c .before))
 
 returns-2 : tie.Need-returns-2
 unfolding valueOf
-returns-2 c =
-    let a : tie.Start = c .before .before .before .before .before .before .before .before in
-    let w : c .before .before .before .before .before .before .word .result .now ≡ word a = c .before .before .before .before .before .before .word .ensures in
-    let s : c .before .before .before .before .before .size .result ≡ min (sizeOf (word a)) 1000000000 = rw (← w) (c .before .before .before .before .before .size .ensures) in
-    let n : c .before .before .before .before .before .size .result ≡ sizeOf (word a) = omega (arith, in-range a .0) in
-    let d : c .before .before .before .past-point .result .now ≡ decimals (word a) = rw (← w) (c .before .before .before .past-point .ensures) in
-    let t : isNegative (word a) ≡ false = rw (← w) (sym (signed (c .before .before .before .before .before .before .word .result .now)) ∙ rw (← c .before .without-sign .ensures) (le-ltb _ _ (c .if1 .left))) in
-    rw (
-      t,
-      c .before .before .before .before .nearest-u32-to-f32 .ensures,
-      c .before .before .nearest-u32-to-f322 .ensures,
-      n,
-      d,
-      powers (length (decimals (word a))) (in-range a .1),
-    )
+returns-2 c = rw (negative (c .before) false (le-ltb _ _ (c .if1 .left)), quotient (c .before))
 
 pub value-spec : {M : Type 1} → statement M
 value-spec =

@@ -1,7 +1,6 @@
 -- `scan::first` meets its contract: what is passed and what is still to pass come to the same at each turn. Assumes nothing.
 use mathlib.Core.Path.{_≡_, refl, sym, _∙_}
-use Prim.Native.Nat.{suc, _+_, _-_, _≤_, _<_}
-use native.Mathlib.Numerals.{add-one}
+use Prim.Native.Nat.{suc, _+_, _-_, _≤_}
 use native.Mathlib.Omega.{arith}
 use lib.ListN.{length, drop}
 use Rattle.bridge_lines.specs.Words.{before}
