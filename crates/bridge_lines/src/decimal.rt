@@ -1,8 +1,8 @@
 // What a word comes to as a decimal number.
 ghost use mathlib.Core.Path.{_≡_};
+ghost use mathlib.Core.List.{[], _∷_};
 ghost use Prim.Native.Nat.{_≤_, min};
 ghost use Rattle.bridge_lines.specs.Decimal.{unsigned, isWhole, decimals, isDecimal, sizeOf, sizeAfter};
-ghost use mathlib.Core.List.{[], _∷_};
 use super::scan;
 use super::scan::Kind;
 
@@ -50,14 +50,14 @@ fn with_digit(n: u32, b: u8) -> u32
     requires { ⌜ n ≤ 1000000000 ⌝ }
     ensures { λ r. ⌜ r ≡ min (sizeAfter n (b ∷ [])) 1000000000 ⌝ }
 {
-    if b < 48 {
+    if b < b'0' {
         return n;
     }
-    if b > 57 {
+    if b > b'9' {
         return n;
     }
     if n < 100000000 {
-        10 * n + (b - 48) as u32
+        10 * n + (b - b'0') as u32
     } else {
         1000000000
     }

@@ -41,6 +41,7 @@ fn limit(place: u32) -> u32
     }
 }
 
+// Whether it is no larger, and has at most 6 decimals.
 fn in_range(place: u32, w: &[u8]) -> bool
     ensures { λ r. ⌜ r ≡ inRange place (now (w .entry)) ⌝ }
 {

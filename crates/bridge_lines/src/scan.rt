@@ -6,6 +6,7 @@ ghost use lib.ListN.{length, getD, drop};
 ghost use Rattle.bridge_lines.specs.Kinds.{isOf};
 ghost use Rattle.bridge_lines.specs.Words.{before, wordsOf};
 
+// What is looked for.
 pub enum Kind {
     Blank,
     NoBlank,
@@ -41,7 +42,8 @@ pub fn first(s: &[u8], at: usize, kind: Kind) -> usize
     i
 }
 
-// The word with k words before it, and an empty one where there is none.
+// The word with k words before it, and an empty one where there is none. A line is short, so that each is looked for
+// from the start.
 pub fn word(text: &[u8], k: u32) -> &[u8]
     ensures { λ r. ⌜ now r ≡ getD (wordsOf (now (text .entry))) k [] ⌝ }
 {
