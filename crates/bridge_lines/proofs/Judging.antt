@@ -5,8 +5,8 @@ use mathlib.Core.List.{List, [], _∷_}
 use Prim.Native.Nat.{ℕ, _+_, _≤_, _<_}
 use native.Mathlib.Numerals.{add-one}
 use native.Mathlib.Omega.{arith}
-use borrow.Author.Tests.{lt-ltb, le-ltb, ltb-true, ltb-false}
-use lib.Dec.{ltb}
+use borrow.Author.Tests.{le-ltb, ltb-true, ltb-false, ne-eqb}
+use lib.Dec.{ltb, eqb}
 use lib.ListN.{length, getD, drop, drop-of-length-le, List·getD-eq-default}
 use lib.Seq.{drop-cons}
 use Rattle.bridge_lines.specs.declared.Fault.the-variants.{NoNumber, OutOfRange, TooFew, TooMany}
@@ -31,23 +31,19 @@ goes-by false ws k e h = absurd (h (ap length (List·getD-eq-default ws [] (ltb-
 pub goes : (ws : List (List ℕ)) (k : ℕ) → (length (getD ws k []) ≡ 0 → ⊥) → drop k ws ≡ getD ws k [] ∷ drop (k + 1) ws
 goes ws k h = rw add-one (drop-cons ws k [] (goes-by (ltb k (length ws)) ws k refl h))
 
-pub blank : (ws : List (List ℕ)) → drop 0 ws ≡ [] → Blank ≡ lineOf ws
-unfolding lineOf
-blank ws e = rw e
-
-pub begun : (ws : List (List ℕ)) → (length (getD ws 0 []) ≡ 0 → ⊥) → judged 1 (drop 0 ws) (Good (bridgeOf ws)) ≡ lineOf ws
-unfolding lineOf
-begun [] h = absurd (h refl)
-begun (w ∷ ws) h = refl
-
 -- ---- where k words are right
 
 module _ (ws : List (List ℕ)) (k : ℕ) (known : judged (k + 1) (drop k ws) (Good (bridgeOf ws)) ≡ lineOf ws) where
-  pub too-few : k < 8 → drop k ws ≡ [] → Bad (k + 1) TooFew ≡ lineOf ws
+  pub blank : k ≡ 0 → drop k ws ≡ [] → Blank ≡ lineOf ws
   unfolding judged
-  too-few h e =
-      let t : ltb (k + 1) 9 ≡ true = lt-ltb (k + 1) 9 (omega arith) in
-      rw t at (rw e at known)
+  blank z e = rw (z) at (rw e at known)
+
+  pub too-few : k < 8 → (k ≡ 0 → ⊥) → drop k ws ≡ [] → Bad (k + 1) TooFew ≡ lineOf ws
+  unfolding judged
+  too-few h z e =
+      let t : ltb 8 (k + 1) ≡ false = le-ltb 8 (k + 1) (omega arith) in
+      let o : eqb (k + 1) 1 ≡ false = ne-eqb (k + 1) 1 (λ n. z (omega arith)) in
+      rw (t, o) at (rw e at known)
 
   module _ (h : k < 8) (e : drop k ws ≡ getD ws k [] ∷ drop (k + 1) ws) where
     pub no-number : hasForm (k + 1) (getD ws k []) ≡ false → Bad (k + 1) NoNumber ≡ lineOf ws

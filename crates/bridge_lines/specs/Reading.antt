@@ -2,7 +2,7 @@
 use Prim.Native.Nat.{ℕ, _+_}
 use mathlib.Core.Bool.{Bool, cond, _&&_}
 use mathlib.Core.List.{List, [], _∷_}
-use lib.Dec.{leb, ltb}
+use lib.Dec.{leb, ltb, eqb}
 use lib.ListN.{length, getD}
 use lib.Ieee.{Float}
 use Rattle.point.specs.Point.{pointFrom}
@@ -27,9 +27,9 @@ limitOf place = cond (ltb place 7) 16777216 (cond (ltb place 8) 9999999 99999999
 abbrev pub inRange : ℕ → List ℕ → Bool
 inRange place w = leb (sizeOf w) (limitOf place) && leb (length (decimals w)) 6
 
--- the words from a place on: the first thing that is wrong, or else `good`
+-- the words from a place on: the first thing that is wrong, or else `good`; a line without words is blank
 unfoldable pub judged : ℕ → List (List ℕ) → Line → Line
-judged place [] good = cond (ltb place 9) (Bad place TooFew) good
+judged place [] good = cond (ltb 8 place) good (cond (eqb place 1) Blank (Bad place TooFew))
 judged place (w ∷ ws) good =
     cond (ltb 8 place) (Bad place TooMany)
     (cond (hasForm place w)
@@ -47,8 +47,7 @@ bridgeOf ws =
 
 unfoldable pub lineOf : List (List ℕ) → Line
 unfolding judged
-lineOf [] = Blank
-lineOf (w ∷ ws) = judged 1 (w ∷ ws) (Good (bridgeOf (w ∷ ws)))
+lineOf ws = judged 1 ws (Good (bridgeOf ws))
 
 -- a line is its words up to the first `#`
 unfoldable pub readOf : List ℕ → Line

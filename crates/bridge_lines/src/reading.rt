@@ -97,22 +97,23 @@ fn bridge(text: &[u8]) -> Bridge
 pub fn line(text: &[u8]) -> Line
     ensures { λ r. ⌜ r ≡ lineOf (wordsOf (now (text .entry))) ⌝ }
 {
-    if scan::word(text, 0).len() == 0 {
-        return Line::Blank;
-    }
     let mut k = 0;
     while k < 8 {
+        let place = k + 1;
         let w = scan::word(text, k);
         if w.len() == 0 {
-            return Line::Bad(k + 1, Fault::TooFew);
+            if k == 0 {
+                return Line::Blank;
+            }
+            return Line::Bad(place, Fault::TooFew);
         }
-        if !has_form(k + 1, w) {
-            return Line::Bad(k + 1, Fault::NoNumber);
+        if !has_form(place, w) {
+            return Line::Bad(place, Fault::NoNumber);
         }
-        if !in_range(k + 1, w) {
-            return Line::Bad(k + 1, Fault::OutOfRange);
+        if !in_range(place, w) {
+            return Line::Bad(place, Fault::OutOfRange);
         }
-        k += 1;
+        k = place;
     }
     if scan::word(text, 8).len() > 0 {
         return Line::Bad(9, Fault::TooMany);

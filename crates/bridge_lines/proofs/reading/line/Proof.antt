@@ -1,5 +1,5 @@
 -- `reading::line` meets its contract: at each turn the words before are in range, and those left lead to what the line comes to. Assumes nothing.
-use mathlib.Core.Path.{_≡_, sym, ap, _∙_}
+use mathlib.Core.Path.{_≡_, refl, sym, ap, _∙_}
 use mathlib.Core.Bool.{Bool, true, false}
 use mathlib.Core.List.{List, [], _∷_}
 use Prim.Native.Nat.{ℕ, _+_, _-_, _≤_, _<_}
@@ -10,7 +10,7 @@ use lib.ListN.{length, getD, drop}
 use Rattle.bridge_lines.specs.declared.Line.the-variants.{Good}
 use Rattle.bridge_lines.specs.Reading.{hasForm, inRange, judged, bridgeOf, lineOf}
 use Rattle.bridge_lines.specs.Words.{wordsOf}
-use Rattle.bridge_lines.proofs.Judging.{ends, goes, blank, begun, too-few, no-number, out-of-range, right, too-many, good}
+use Rattle.bridge_lines.proofs.Judging.{ends, goes, blank, too-few, no-number, out-of-range, right, too-many, good}
 use Rattle.bridge_lines.proofs.reading.line.Statement.{statement}
 use Rattle.bridge_lines.proofs.reading.line.Tie as tie
 
@@ -32,10 +32,10 @@ abbrev μ-loop : tie.MeasureT-loop
 -- ---- in the loop, past the word at hand
 
 abbrev At : Type 0
-At = tie.After-word2 Inv-loop μ-loop
+At = tie.After-word Inv-loop μ-loop
 
 abbrev words : At → List (List ℕ)
-words b = wordsOf (b .before .before .before .before .before .before .args .text .now)
+words b = wordsOf (b .before .before .before .before .args .text .now)
 
 -- how many were right before it
 abbrev passed : At → ℕ
@@ -50,52 +50,44 @@ few b = omega arith
 known : (b : At) → judged (passed b + 1) (drop (passed b) (words b)) (Good (bridgeOf (words b))) ≡ lineOf (words b)
 known b = b .before .before .loop .inv .1 .1
 
--- where it is not empty
-more : (c : tie.Else2 Inv-loop μ-loop) →
+-- where it is empty, and where it is not
+
+past : (c : tie.Then1 Inv-loop μ-loop) → drop (passed (c .before)) (words (c .before)) ≡ []
+past c =
+    ends (c .before .before .before .before .before .args .text .now) (passed (c .before)) (rw (c .before .word .ensures) at (c .if1 .taken))
+
+more : (c : tie.Else1 Inv-loop μ-loop) →
     drop (passed (c .before)) (words (c .before)) ≡ word (c .before) ∷ drop (passed (c .before) + 1) (words (c .before))
-more c = goes (words (c .before)) (passed (c .before)) (rw (c .before .word2 .ensures) at (c .if2 .left))
+more c = goes (words (c .before)) (passed (c .before)) (rw (c .before .word .ensures) at (c .if1 .left))
 
 formed : (c : tie.After-has-form Inv-loop μ-loop) (t : Bool) → c .has-form .result ≡ t →
     hasForm (passed (c .before .before) + 1) (word (c .before .before)) ≡ t
-formed c t e = rw (← c .before .before .word2 .ensures) (sym (c .has-form .ensures) ∙ e)
+formed c t e = rw (← c .before .before .word .ensures) (sym (c .has-form .ensures) ∙ e)
 
 ranged : (c : tie.After-in-range Inv-loop μ-loop) (t : Bool) → c .in-range .result ≡ t →
     inRange (passed (c .before .before .before .before) + 1) (word (c .before .before .before .before)) ≡ t
-ranged c t e = rw (← c .before .before .before .before .word2 .ensures) (sym (c .in-range .ensures) ∙ e)
+ranged c t e = rw (← c .before .before .before .before .word .ensures) (sym (c .in-range .ensures) ∙ e)
+
+loop-holds : tie.Need-loop-holds Inv-loop μ-loop
+unfolding lineOf
+loop-holds c = (omega arith, ((λ j h. absurd (none j h)), refl))
+
+add-place : tie.Need-add-place Inv-loop μ-loop
+add-place c = omega arith
 
 word-requires : tie.Need-word-requires Inv-loop μ-loop
 word-requires c κs = tt
 
 returns : tie.Need-returns Inv-loop μ-loop
-returns c =
-    let text : List ℕ = c .before .before .before .args .text .now in
-    blank (wordsOf text) (ends text 0 (rw (c .before .word .ensures) at (c .if1 .taken)))
-
-loop-holds : tie.Need-loop-holds Inv-loop μ-loop
-loop-holds c =
-    let text : List ℕ = c .before .before .before .args .text .now in
-    (omega arith, ((λ j h. absurd (none j h)), begun (wordsOf text) (rw (c .before .word .ensures) at (c .if1 .left))))
-
-word-requires-2 : tie.Need-word-requires-2 Inv-loop μ-loop
-word-requires-2 c κs = tt
-
-add-t9 : tie.Need-add-t9 Inv-loop μ-loop
-add-t9 c = omega arith
+returns c = blank (words (c .before .before)) (passed (c .before .before)) (known (c .before .before)) (c .if2 .taken) (past (c .before))
 
 returns-2 : tie.Need-returns-2 Inv-loop μ-loop
 returns-2 c =
-    let b : At = c .before in
-    too-few (words b) (passed b) (known b) (few b)
-    (ends (b .before .before .before .before .before .before .args .text .now) (passed b) (rw (b .word2 .ensures) at (c .if2 .taken)))
-
-add-has-form : tie.Need-add-has-form Inv-loop μ-loop
-add-has-form c = omega arith
+    let b : At = c .before .before in
+    too-few (words b) (passed b) (known b) (few b) (c .if2 .left) (past (c .before))
 
 has-form-requires : tie.Need-has-form-requires Inv-loop μ-loop
 has-form-requires c κs = tt
-
-add-t13 : tie.Need-add-t13 Inv-loop μ-loop
-add-t13 c = omega arith
 
 returns-3 : tie.Need-returns-3 Inv-loop μ-loop
 returns-3 c =
@@ -103,14 +95,8 @@ returns-3 c =
     no-number (words b) (passed b) (known b) (few b) (more (c .before .before))
     (formed (c .before) false (not-true (c .before .has-form .result) (c .if3 .taken)))
 
-add-in-range : tie.Need-add-in-range Inv-loop μ-loop
-add-in-range c = omega arith
-
 in-range-requires : tie.Need-in-range-requires Inv-loop μ-loop
 in-range-requires c κs = tt
-
-add-t15 : tie.Need-add-t15 Inv-loop μ-loop
-add-t15 c = omega arith
 
 returns-4 : tie.Need-returns-4 Inv-loop μ-loop
 returns-4 c =
@@ -118,9 +104,6 @@ returns-4 c =
     out-of-range (words b) (passed b) (known b) (few b) (more (c .before .before .before .before))
     (formed (c .before .before .before) true (not-false (c .before .before .before .has-form .result) (c .before .before .if3 .left)))
     (ranged (c .before) false (not-true (c .before .in-range .result) (c .if4 .taken)))
-
-add-k : tie.Need-add-k Inv-loop μ-loop
-add-k c = omega arith
 
 loop-less : tie.Need-loop-less Inv-loop μ-loop
 loop-less c = omega arith
@@ -138,14 +121,14 @@ loop-again c =
       ),
     )
 
-word-requires-3 : tie.Need-word-requires-3 Inv-loop μ-loop
-word-requires-3 c κs = tt
+word-requires-2 : tie.Need-word-requires-2 Inv-loop μ-loop
+word-requires-2 c κs = tt
 
 returns-5 : tie.Need-returns-5 Inv-loop μ-loop
 returns-5 c =
-    let text : List ℕ = c .before .before .before .before .before .before .before .args .text .now in
+    let text : List ℕ = c .before .before .before .before .before .args .text .now in
     let e : c .before .before .before .loop .k ≡ 8 = omega arith in
-    let n : 0 < length (getD (wordsOf text) 8 []) = rw (c .before .word3 .ensures) at (c .if5 .taken) in
+    let n : 0 < length (getD (wordsOf text) 8 []) = rw (c .before .word2 .ensures) at (c .if5 .taken) in
     too-many (wordsOf text) (rw e at (c .before .before .before .loop .inv .1 .1)) (goes (wordsOf text) 8 (λ z. some n z))
 
 bridge-requires : tie.Need-bridge-requires Inv-loop μ-loop
@@ -155,9 +138,9 @@ bridge-requires c κs =
 
 returns-6 : tie.Need-returns-6 Inv-loop μ-loop
 returns-6 c =
-    let text : List ℕ = c .before .before .before .before .before .before .before .before .args .text .now in
+    let text : List ℕ = c .before .before .before .before .before .before .args .text .now in
     let e : c .before .before .before .before .loop .k ≡ 8 = omega arith in
-    let n : length (getD (wordsOf text) 8 []) ≤ 0 = rw (c .before .before .word3 .ensures) at (c .before .if5 .left) in
+    let n : length (getD (wordsOf text) 8 []) ≤ 0 = rw (c .before .before .word2 .ensures) at (c .before .if5 .left) in
     ap Good (c .bridge .ensures) ∙ good (wordsOf text) (rw e at (c .before .before .before .before .loop .inv .1 .1)) (ends text 8 (omega arith))
 
 pub line-spec : {M : Type 1} → statement M
@@ -166,24 +149,18 @@ line-spec =
     (tie.spec
     Inv-loop
     μ-loop
+    loop-holds
+    add-place
     word-requires
     returns
-    loop-holds
-    word-requires-2
-    add-t9
     returns-2
-    add-has-form
     has-form-requires
-    add-t13
     returns-3
-    add-in-range
     in-range-requires
-    add-t15
     returns-4
-    add-k
     loop-less
     loop-again
-    word-requires-3
+    word-requires-2
     returns-5
     bridge-requires
     returns-6)
