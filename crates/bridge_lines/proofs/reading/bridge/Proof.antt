@@ -43,7 +43,17 @@ returns c =
     let w : List ℕ = c .before .word .result .now in
     let r : sizeOf w < 1000000000 = ranged 8 w (rw (c .before .word .ensures) (a .pre 7 (lit< tt))) .0 in
     let e : c .size .result ≡ sizeOf w = omega arith in
-    cc
+    rw (
+      c .before .before .before .before .before .before .before .before .value .ensures,
+      c .before .before .before .before .before .before .before .value2 .ensures,
+      c .before .before .before .before .before .before .value3 .ensures,
+      c .before .before .before .before .before .value4 .ensures,
+      c .before .before .before .before .value5 .ensures,
+      c .before .before .before .value6 .ensures,
+      c .before .before .value7 .ensures,
+      e,
+      c .before .word .ensures,
+    )
 
 pub bridge-spec : {M : Type 1} → statement M
 bridge-spec =
