@@ -31,33 +31,34 @@ few c = rw (c .past-point .ensures, c .before .before .before .word .ensures) (i
 abbrev at-word : tie.After-without-sign → tie.After-word
 at-word c = c .before .before .before .before .before
 
-abbrev this : tie.After-without-sign → List ℕ
-this c = word (at-word c .before .before)
-
 negative : (c : tie.After-without-sign) (t : Bool) →
-    ltb (length (c .without-sign .result .now)) (length (at-word c .word .result .now)) ≡ t → isNegative (this c) ≡ t
+    ltb (length (c .without-sign .result .now)) (length (at-word c .word .result .now)) ≡ t →
+    isNegative (word (c .before .before .before .before .before .before .before)) ≡ t
 negative c t e =
     rw (← at-word c .word .ensures) (sym (signed (at-word c .word .result .now)) ∙ rw (← c .without-sign .ensures) e)
 
-size-is : (c : tie.After-without-sign) → c .before .before .before .before .size .result ≡ sizeOf (this c)
+size-is : (c : tie.After-without-sign) →
+    c .before .before .before .before .size .result ≡ sizeOf (word (c .before .before .before .before .before .before .before))
 size-is c =
-    let e : c .before .before .before .before .size .result ≡ min (sizeOf (this c)) 1000000000 =
-    rw (← at-word c .word .ensures) (c .before .before .before .before .size .ensures) in
-    omega (arith, in-range (at-word c .before .before) .0)
+    let e : c .before .before .before .before .size .result ≡ min (sizeOf (at-word c .word .result .now)) 1000000000 =
+    c .before .before .before .before .size .ensures in
+    omega (arith, rw (at-word c .word .ensures) at e, in-range (at-word c .before .before) .0)
 
-decimals-are : (c : tie.After-without-sign) → c .before .before .past-point .result .now ≡ decimals (this c)
+decimals-are : (c : tie.After-without-sign) →
+    c .before .before .past-point .result .now ≡ decimals (word (c .before .before .before .before .before .before .before))
 decimals-are c = rw (← at-word c .word .ensures) (c .before .before .past-point .ensures)
 
 quotient : (c : tie.After-without-sign) →
     c .before .before .before .nearest-u32-to-f32 .result ⊘ c .before .nearest-u32-to-f322 .result
-    ≡ ofInt binary32 (pos (sizeOf (this c))) ⊘ ofInt binary32 (pos (scaleOf (this c)))
+    ≡ ofInt binary32 (pos (sizeOf (word (c .before .before .before .before .before .before .before))))
+    ⊘ ofInt binary32 (pos (scaleOf (word (c .before .before .before .before .before .before .before))))
 quotient c =
-    cc (
+    rw (
       c .before .before .before .nearest-u32-to-f32 .ensures,
       c .before .nearest-u32-to-f322 .ensures,
       size-is c,
       decimals-are c,
-      powers (length (decimals (this c))) (in-range (at-word c .before .before) .1),
+      powers (length (decimals (word (c .before .before .before .before .before .before .before)))) (in-range (at-word c .before .before) .1),
     )
 
 word-requires : tie.Need-word-requires
