@@ -1,4 +1,5 @@
 -- `read` meets its contract: what stands before the first `#` is a line without its comment. Assumes nothing.
+use native.Mathlib.Omega.{arith}
 use mathlib.Core.Path.{_≡_, ap, _∙_}
 use mathlib.Core.List.{List}
 use Prim.Native.Nat.{ℕ, _-_}
@@ -9,7 +10,6 @@ use Rattle.bridge_lines.specs.Reading.{lineOf, readOf}
 use Rattle.bridge_lines.specs.Words.{isHash, before, wordsOf}
 use Rattle.bridge_lines.specs.declared.scan.Kind.the-variants.{Hash}
 use Rattle.bridge_lines.proofs.Bytes.{part}
-use borrow.Author.Needs.{needs}
 use Rattle.bridge_lines.proofs.read.Statement.{statement}
 use Rattle.bridge_lines.proofs.read.Tie as tie
 
@@ -18,19 +18,19 @@ unfolding readOf
 returns c = simp (lt-ltb _ _ (c .if1 .taken))
 
 first-requires : tie.Need-first-requires
-first-requires c κs = search needs
+first-requires c κs = omega arith
 
 sub-line : tie.Need-sub-line
-sub-line c = search needs
+sub-line c = omega arith
 
 part-line-start : tie.Need-part-line-start
-part-line-start c = search needs
+part-line-start c = omega arith
 
 part-line-end : tie.Need-part-line-end
-part-line-end c = search needs
+part-line-end c = omega arith
 
 line-requires : tie.Need-line-requires
-line-requires c κs = search needs
+line-requires c κs = tt
 
 returns-2 : tie.Need-returns-2
 unfolding isOf readOf

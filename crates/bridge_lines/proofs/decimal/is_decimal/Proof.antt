@@ -8,33 +8,32 @@ use Rattle.bridge_lines.specs.Kinds.{isOf}
 use Rattle.bridge_lines.specs.Words.{isPoint, before}
 use Rattle.bridge_lines.specs.declared.scan.Kind.the-variants.{Point}
 use Rattle.bridge_lines.proofs.Bytes.{part}
-use borrow.Author.Needs.{needs}
 use Rattle.bridge_lines.proofs.decimal.is_decimal.Statement.{statement}
 use Rattle.bridge_lines.proofs.decimal.is_decimal.Tie as tie
 
 first-requires : tie.Need-first-requires
-first-requires c κs = search needs
+first-requires c κs = omega arith
 
 is-whole-requires : tie.Need-is-whole-requires
-is-whole-requires c κs = search needs
+is-whole-requires c κs = tt
 
 sub-is-whole : tie.Need-sub-is-whole
-sub-is-whole c = search needs
+sub-is-whole c = omega arith
 
 part-is-whole-start : tie.Need-part-is-whole-start
-part-is-whole-start c = search needs
+part-is-whole-start c = omega arith
 
 part-is-whole-end : tie.Need-part-is-whole-end
 part-is-whole-end c = omega arith
 
 is-whole-requires-2 : tie.Need-is-whole-requires-2
-is-whole-requires-2 c κs = search needs
+is-whole-requires-2 c κs = tt
 
 past-point-requires : tie.Need-past-point-requires
-past-point-requires c κs = search needs
+past-point-requires c κs = tt
 
 is-whole-requires-3 : tie.Need-is-whole-requires-3
-is-whole-requires-3 c κs = search needs
+is-whole-requires-3 c κs = tt
 
 returns : tie.Need-returns
 unfolding isOf

@@ -2,7 +2,6 @@
 use mathlib.Core.Path.{_≡_}
 use native.Mathlib.Omega.{arith}
 use lib.ListN.{length}
-use borrow.Author.Needs.{needs}
 use Rattle.bridge_lines.specs.Kinds.{isOf}
 use Rattle.bridge_lines.specs.Words.{before}
 use Rattle.bridge_lines.specs.declared.scan.Kind.the-variants.{NoDigit}
@@ -11,7 +10,7 @@ use Rattle.bridge_lines.proofs.decimal.is_whole.Statement.{statement}
 use Rattle.bridge_lines.proofs.decimal.is_whole.Tie as tie
 
 first-requires : tie.Need-first-requires
-first-requires c κs = search needs
+first-requires c κs = omega arith
 
 returns : tie.Need-returns
 returns c =

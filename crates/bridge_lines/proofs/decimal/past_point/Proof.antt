@@ -9,24 +9,23 @@ use Rattle.bridge_lines.specs.Kinds.{isOf}
 use Rattle.bridge_lines.specs.Words.{isPoint, from}
 use Rattle.bridge_lines.specs.declared.scan.Kind.the-variants.{Point}
 use Rattle.bridge_lines.proofs.Bytes.{rest, tail}
-use borrow.Author.Needs.{needs}
 use Rattle.bridge_lines.proofs.decimal.past_point.Statement.{statement}
 use Rattle.bridge_lines.proofs.decimal.past_point.Tie as tie
 
 first-requires : tie.Need-first-requires
-first-requires c κs = search needs
+first-requires c κs = omega arith
 
 add-result : tie.Need-add-result
-add-result c = search needs
+add-result c = omega arith
 
 sub-result : tie.Need-sub-result
-sub-result c = search needs
+sub-result c = omega arith
 
 part-result-start : tie.Need-part-result-start
-part-result-start c = search needs
+part-result-start c = omega arith
 
 part-result-end : tie.Need-part-result-end
-part-result-end c = search needs
+part-result-end c = omega arith
 
 returns : tie.Need-returns
 unfolding isOf
@@ -43,7 +42,7 @@ part-result-start-2 : tie.Need-part-result-start-2
 part-result-start-2 c = omega arith
 
 part-result-end-2 : tie.Need-part-result-end-2
-part-result-end-2 c = search needs
+part-result-end-2 c = omega arith
 
 returns-2 : tie.Need-returns-2
 unfolding isOf

@@ -1,6 +1,5 @@
 -- `decimal::with_digit` meets its contract: each answer goes by the tests that led to it. Assumes nothing.
 use native.Mathlib.Omega.{arith}
-use borrow.Author.Needs.{needs}
 use borrow.Author.Tests.{le-leb, lt-leb}
 use Rattle.bridge_lines.specs.Decimal.{sizeAfter}
 use Rattle.bridge_lines.proofs.decimal.with_digit.Statement.{statement}
@@ -17,13 +16,13 @@ returns-2 c =
     (omega arith)
 
 mul-result : tie.Need-mul-result
-mul-result c = search needs
+mul-result c = omega arith
 
 cast-result : tie.Need-cast-result
-cast-result c = search needs
+cast-result c = omega arith
 
 add-result : tie.Need-add-result
-add-result c = search needs
+add-result c = omega arith
 
 returns-3 : tie.Need-returns-3
 unfolding sizeAfter

@@ -6,7 +6,6 @@ use native.Mathlib.Omega.{arith}
 use lib.Dec.{lit<}
 use Rattle.bridge_lines.specs.Decimal.{sizeOf}
 use Rattle.bridge_lines.proofs.Sizes.{ranged}
-use borrow.Author.Needs.{needs}
 use Rattle.bridge_lines.proofs.reading.bridge.Statement.{statement}
 use Rattle.bridge_lines.proofs.reading.bridge.Tie as tie
 
@@ -32,10 +31,10 @@ value-requires-7 : tie.Need-value-requires-7
 value-requires-7 c κs = c .before .before .before .before .before .before .before .pre 6 (lit< tt)
 
 word-requires : tie.Need-word-requires
-word-requires c κs = search needs
+word-requires c κs = tt
 
 size-requires : tie.Need-size-requires
-size-requires c κs = search needs
+size-requires c κs = tt
 
 returns : tie.Need-returns
 returns c =

@@ -2,18 +2,17 @@
 use Rattle.bridge_lines.specs.Reading.{limitOf}
 use Rattle.bridge_lines.specs.Decimal.{sizeOf}
 use Rattle.bridge_lines.proofs.Sizes.{below, limit-below}
-use borrow.Author.Needs.{needs}
 use Rattle.bridge_lines.proofs.reading.in_range.Statement.{statement}
 use Rattle.bridge_lines.proofs.reading.in_range.Tie as tie
 
 size-requires : tie.Need-size-requires
-size-requires c κs = search needs
+size-requires c κs = tt
 
 limit-requires : tie.Need-limit-requires
-limit-requires c κs = search needs
+limit-requires c κs = tt
 
 past-point-requires : tie.Need-past-point-requires
-past-point-requires c κs = search needs
+past-point-requires c κs = tt
 
 returns : tie.Need-returns
 returns c =

@@ -13,7 +13,6 @@ use Rattle.float_laws.specs.Formula.{_⊘_}
 use Rattle.bridge_lines.specs.Decimal.{isNegative, decimals, sizeOf, scaleOf, valueOf}
 use Rattle.bridge_lines.specs.Words.{wordsOf}
 use Rattle.bridge_lines.proofs.Sizes.{ranged, signed, powers}
-use borrow.Author.Needs.{needs}
 use Rattle.bridge_lines.proofs.reading.value.Statement.{statement}
 use Rattle.bridge_lines.proofs.reading.value.Tie as tie
 
@@ -62,16 +61,16 @@ quotient c =
     )
 
 word-requires : tie.Need-word-requires
-word-requires c κs = search needs
+word-requires c κs = tt
 
 size-requires : tie.Need-size-requires
-size-requires c κs = search needs
+size-requires c κs = tt
 
 nearest-u32-to-f32-requires : tie.Need-nearest-u32-to-f32-requires
-nearest-u32-to-f32-requires c κs = search needs
+nearest-u32-to-f32-requires c κs = tt
 
 past-point-requires : tie.Need-past-point-requires
-past-point-requires c κs = search needs
+past-point-requires c κs = tt
 
 mul-nearest-u32-to-f32 : tie.Need-mul-nearest-u32-to-f32
 mul-nearest-u32-to-f32 c = omega (arith, few c)
@@ -80,10 +79,10 @@ array-read-nearest-u32-to-f32 : tie.Need-array-read-nearest-u32-to-f32
 array-read-nearest-u32-to-f32 c = omega (arith, few c)
 
 nearest-u32-to-f32-requires-2 : tie.Need-nearest-u32-to-f32-requires-2
-nearest-u32-to-f32-requires-2 c κs = search needs
+nearest-u32-to-f32-requires-2 c κs = tt
 
 without-sign-requires : tie.Need-without-sign-requires
-without-sign-requires c κs = search needs
+without-sign-requires c κs = tt
 
 returns : tie.Need-returns
 unfolding valueOf
