@@ -14,7 +14,7 @@ use Rattle.conic.specs.Mend.{nearerOf, orderedOf, mendedOf}
 use Rattle.point.specs.Numbers.{flat}
 use Rattle.conic_cut.specs.Cut.{cutPoints, allFinite, pinned, written, cutAnswer}
 use Rattle.checked_list.specs.Figures.{Figure, root, narrowed, roots, between, cut, refused}
-use Rattle.checked_list.specs.Figures.{bits, rootBits, at, corner, Holds, AllHold, figures}
+use Rattle.checked_list.specs.Figures.{bits, at, corner, Holds, AllHold, figures}
 
 -- what is left to compute of a figure: a root is nearest where it is the computed one
 abbrev Computed : Figure → Type 0
@@ -47,7 +47,7 @@ a & b = (a, b)
 
 all-computed : AllComputed figures
 unfolding
-    bits rootBits at corner rootOf roundTo rootsOf discriminantOf dividedOf twoRoots collected qOf test
+    bits at corner rootOf roundTo rootsOf discriminantOf dividedOf twoRoots collected qOf test
     chopBy chopAt halvesAt linesAt lineOf mendedOf orderedOf nearerOf absOf cutPoints allFinite pinned written flat cutAnswer
     ofBits toBits fits add sub mul div lt le
 all-computed =

@@ -9,9 +9,7 @@ use Rattle.float_laws.specs.Narrow.{narrowOf}
 use Rattle.float_laws.specs.Root.{Root}
 use Rattle.point.specs.declared.Point.{Point}
 use Rattle.point.specs.Point.{pointFrom}
-use Rattle.quad_roots.specs.declared.Roots.{Roots}
-use Rattle.quad_roots.specs.declared.Roots.the-variants.{None, One, Two}
-use Rattle.quad_roots.specs.Roots.{rootsOf}
+use Rattle.quad_roots.specs.Roots.{rootsOf, valuesOfRoots}
 use Rattle.conic.specs.declared.Conic.{Conic}
 use Rattle.conic.specs.declared.Rule.{Rule}
 use Rattle.conic.specs.declared.Rule.the-variants.{Product, Exact}
@@ -39,11 +37,6 @@ unfoldable pub bits : List Float → List ℕ
 bits [] = []
 bits (x ∷ l) = toBits binary32 x ∷ bits l
 
-unfoldable pub rootBits : Roots → List ℕ
-rootBits None = []
-rootBits (One r) = bits (r ∷ [])
-rootBits (Two r s) = bits (r ∷ s ∷ [])
-
 unfoldable pub at : ℕ → ℕ → Point
 at x y = pointFrom (ofBits binary32 x) (ofBits binary32 y)
 
@@ -55,7 +48,7 @@ corner = conicFrom (at 0 0) (at 0x4080_0000 0) (at 0x4080_0000 0x4080_0000) one3
 abbrev pub Holds : Figure → Type 0
 Holds (root x r) = Root binary32 (ofBits binary32 x) (ofBits binary32 r)
 Holds (narrowed x r) = toBits binary32 (narrowOf (ofBits binary64 x)) ≡ r
-Holds (roots a b c l) = rootBits (rootsOf (ofBits binary32 a) (ofBits binary32 b) (ofBits binary32 c)) ≡ l
+Holds (roots a b c l) = bits (valuesOfRoots (rootsOf (ofBits binary32 a) (ofBits binary32 b) (ofBits binary32 c))) ≡ l
 Holds (between u a b c answer) = test u (ofBits binary32 a) (ofBits binary32 b) (ofBits binary32 c) ≡ answer
 Holds (cut u n quads l) = (cutAnswer n (room n) false ≡ Quads quads) × (bits (flat (written (chopBy u) n corner)) ≡ l)
 Holds (refused n len number) = numberOfCut (cutAnswer n len false) ≡ number

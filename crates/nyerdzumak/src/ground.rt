@@ -1,10 +1,11 @@
 // The float ground's calls, and the finite test of a point.
 ghost use mathlib.Core.Path.{_≡_};
-ghost use lib.Ieee.{binary32, binary64, mul};
+ghost use lib.Ieee.{binary32, binary64};
 ghost use lib.Ieee.Scale.{finite};
 ghost use Rattle.float_laws.specs.Absolute.{absOf};
 ghost use Rattle.float_laws.specs.Narrow.{narrowOf};
 ghost use Rattle.float_laws.specs.Root.{rootOf};
+ghost use Rattle.point.specs.Point.{pointFrom, pointFinite};
 use point::Point;
 
 #[no_mangle]
@@ -59,7 +60,7 @@ pub extern "C" fn nz_sqrt_f64(x: f64) -> f64
 // Whether the product of a point's coordinates is finite.
 #[no_mangle]
 pub extern "C" fn nz_point_is_finite(x: f32, y: f32) -> bool
-    ensures { λ r. ⌜ r ≡ finite (mul binary32 x y) ⌝ }
+    ensures { λ r. ⌜ r ≡ pointFinite (pointFrom x y) ⌝ }
 {
     Point { x, y }.is_finite()
 }
