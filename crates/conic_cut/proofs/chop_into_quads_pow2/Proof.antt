@@ -55,13 +55,4 @@ returns-3 c =
 
 pub chop-into-quads-pow2-spec : {M : Type 1} → statement M
 chop-into-quads-pow2-spec =
-    tie.close
-    (tie.spec
-    returns
-    quads-requires
-    mul-if2
-    add-if2
-    returns-2
-    store-requires
-    same-length
-    returns-3)
+    tie.close (tie.spec returns quads-requires mul-if2 add-if2 returns-2 store-requires same-length returns-3)

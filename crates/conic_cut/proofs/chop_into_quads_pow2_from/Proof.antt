@@ -18,14 +18,8 @@ returns c =
     let w = too-deep (chopBy (a .rule)) (a .level) (conicOf (a .src .now) (a .weight)) (ltb (length (a .src .now)) 6) (a .out .now) (c .if1 .taken) in
     (w, kept-order-from (a .rule) (a .level) (conicOf (a .src .now) (a .weight)) (a .out .now) (a .out .now) (a .src .now) (w .buffer))
 
-from-points-requires : tie.Need-from-points-requires
-from-points-requires c κs = search needs
-
 enum-known-c : tie.Need-enum-known-c
 enum-known-c c = search needs
-
-chop-into-quads-pow2-requires : tie.Need-chop-into-quads-pow2-requires
-chop-into-quads-pow2-requires c κs = search needs
 
 enum-known-r : tie.Need-enum-known-r
 enum-known-r c = search needs
@@ -62,13 +56,4 @@ returns-3 c =
 
 pub chop-into-quads-pow2-from-spec : {M : Type 1} → statement M
 chop-into-quads-pow2-from-spec =
-    tie.close
-    (tie.spec
-    returns
-    from-points-requires
-    enum-known-c
-    chop-into-quads-pow2-requires
-    enum-known-r
-    same-length
-    returns-2
-    returns-3)
+    tie.close (tie.spec returns (λ c κs. tt) enum-known-c (λ c κs. tt) enum-known-r same-length returns-2 returns-3)

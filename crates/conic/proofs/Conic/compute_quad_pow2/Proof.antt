@@ -1,22 +1,15 @@
 -- `Conic::compute_quad_pow2` meets its contract: each answer by the tests that led to it. Assumes nothing.
 use mathlib.Core.Path.{ap}
 use borrow.Author.Tests.{not-true, not-false}
-use borrow.Author.Needs.{needs}
 use Rattle.conic.specs.declared.Level.the-variants.{Pow2}
 use Rattle.conic.proofs.Levels.{chosen}
 use Rattle.conic.specs.Level.{levelAnswer}
 use Rattle.conic.proofs.Conic.compute_quad_pow2.Statement.{statement}
 use Rattle.conic.proofs.Conic.compute_quad_pow2.Tie as tie
 
-is-bad-requires : tie.Need-is-bad-requires
-is-bad-requires c κs = search needs
-
 returns : tie.Need-returns
 unfolding levelAnswer
 returns c = chosen (rw (← c .before .is-bad .ensures, c .if1 .taken))
-
-is-finite-requires : tie.Need-is-finite-requires
-is-finite-requires c κs = search needs
 
 returns-2 : tie.Need-returns-2
 unfolding levelAnswer
@@ -24,9 +17,6 @@ returns-2 c =
     let bad = c .before .before .before .is-bad in
     let whole = c .before .is-finite in
     chosen (rw (← bad .ensures, c .before .before .if1 .left, ← whole .ensures, not-true (whole .result) (c .if2 .taken)))
-
-level-requires : tie.Need-level-requires
-level-requires c κs = search needs
 
 returns-3 : tie.Need-returns-3
 unfolding levelAnswer
@@ -39,4 +29,4 @@ returns-3 c =
 pub compute-quad-pow2-spec : {M : Type 1} → statement M
 compute-quad-pow2-spec =
     tie.close
-    (tie.spec is-bad-requires returns is-finite-requires returns-2 level-requires returns-3)
+    (tie.spec (λ c κs. tt) returns (λ c κs. tt) returns-2 (λ c κs. tt) returns-3)

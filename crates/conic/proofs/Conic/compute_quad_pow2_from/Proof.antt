@@ -7,21 +7,12 @@ use Rattle.conic.specs.Level.{levelAnswer}
 use Rattle.conic.proofs.Conic.compute_quad_pow2_from.Statement.{statement}
 use Rattle.conic.proofs.Conic.compute_quad_pow2_from.Tie as tie
 
-is-bad-requires : tie.Need-is-bad-requires
-is-bad-requires c κs = search needs
-
 returns : tie.Need-returns
 unfolding levelAnswer
 returns c = chosen (rw (← c .before .is-bad .ensures, c .if1 .taken))
 
-from-points-requires : tie.Need-from-points-requires
-from-points-requires c κs = search needs
-
 enum-known-c : tie.Need-enum-known-c
 enum-known-c c = search needs
-
-compute-quad-pow2-requires : tie.Need-compute-quad-pow2-requires
-compute-quad-pow2-requires c κs = search needs
 
 enum-known-r : tie.Need-enum-known-r
 enum-known-r c = search needs
@@ -46,13 +37,4 @@ returns-3 c =
 
 pub compute-quad-pow2-from-spec : {M : Type 1} → statement M
 compute-quad-pow2-from-spec =
-    tie.close
-    (tie.spec
-    is-bad-requires
-    returns
-    from-points-requires
-    enum-known-c
-    compute-quad-pow2-requires
-    enum-known-r
-    returns-2
-    returns-3)
+    tie.close (tie.spec (λ c κs. tt) returns (λ c κs. tt) enum-known-c (λ c κs. tt) enum-known-r returns-2 returns-3)

@@ -1,20 +1,10 @@
 -- `is_finite` meets its contract. Assumes nothing.
-use borrow.Author.Needs.{needs}
 use Rattle.conic.proofs.leveling.is_finite.Statement.{statement}
 use Rattle.conic.proofs.leveling.is_finite.Tie as tie
-
-is-finite-requires : tie.Need-is-finite-requires
-is-finite-requires c κs = search needs
-
-is-finite-requires-2 : tie.Need-is-finite-requires-2
-is-finite-requires-2 c κs = search needs
-
-is-finite-requires-3 : tie.Need-is-finite-requires-3
-is-finite-requires-3 c κs = search needs
 
 returns : tie.Need-returns
 returns c = rw (c .is-finite3 .ensures, c .before .is-finite2 .ensures, c .before .before .is-finite .ensures)
 
 pub is-finite-spec : {M : Type 1} → statement M
 is-finite-spec =
-    tie.close (tie.spec is-finite-requires is-finite-requires-2 is-finite-requires-3 returns)
+    tie.close (tie.spec (λ c κs. tt) (λ c κs. tt) (λ c κs. tt) returns)

@@ -6,20 +6,11 @@ use Rattle.conic_cut.proofs.Autos.{auto-cut, auto-refused, computed}
 use Rattle.conic_cut.proofs.AutoConicToQuads.compute.Statement.{statement}
 use Rattle.conic_cut.proofs.AutoConicToQuads.compute.Tie as tie
 
-new-requires : tie.Need-new-requires
-new-requires c κs = search needs
-
-compute-quad-pow2-requires : tie.Need-compute-quad-pow2-requires
-compute-quad-pow2-requires c κs = search needs
-
 enum-known-level : tie.Need-enum-known-level
 enum-known-level c = search needs
 
 slice-aggregate-chop-into-quads-pow2 : tie.Need-slice-aggregate-chop-into-quads-pow2
 slice-aggregate-chop-into-quads-pow2 c = search needs
-
-chop-into-quads-pow2-requires : tie.Need-chop-into-quads-pow2-requires
-chop-into-quads-pow2-requires c κs = search needs
 
 enum-known-r : tie.Need-enum-known-r
 enum-known-r c = search needs
@@ -46,11 +37,11 @@ pub compute-spec : {M : Type 1} → statement M
 compute-spec =
     tie.close
     (tie.spec
-    new-requires
-    compute-quad-pow2-requires
+    (λ c κs. tt)
+    (λ c κs. tt)
     enum-known-level
     slice-aggregate-chop-into-quads-pow2
-    chop-into-quads-pow2-requires
+    (λ c κs. tt)
     enum-known-r
     returns
     returns-2)

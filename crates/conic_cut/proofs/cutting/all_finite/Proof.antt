@@ -38,9 +38,6 @@ mul-t10 c = omega arith
 shared-slice-read-t12 : tie.Need-shared-slice-read-t12 Inv-loop μ-loop
 shared-slice-read-t12 c = omega arith
 
-is-finite-requires : tie.Need-is-finite-requires Inv-loop μ-loop
-is-finite-requires c κs = search needs
-
 add-i : tie.Need-add-i Inv-loop μ-loop
 add-i c = omega arith
 
@@ -78,7 +75,7 @@ all-finite-spec =
     add-t6
     mul-t10
     shared-slice-read-t12
-    is-finite-requires
+    (λ c κs. tt)
     add-i
     loop-less
     loop-again

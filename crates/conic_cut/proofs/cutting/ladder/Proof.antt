@@ -20,9 +20,6 @@ loop-holds c = (c .pre, refl)
 sub-n : tie.Need-sub-n Inv-loop μ-loop
 sub-n c = omega arith
 
-scale-of-requires : tie.Need-scale-of-requires Inv-loop μ-loop
-scale-of-requires c κs = search needs
-
 mul-rungs : tie.Need-mul-rungs Inv-loop μ-loop
 mul-rungs c = omega arith
 
@@ -31,9 +28,6 @@ mul-rungs-2 c = omega arith
 
 element-write-rungs : tie.Need-element-write-rungs Inv-loop μ-loop
 element-write-rungs c = omega arith
-
-subdivide-weight-value-requires : tie.Need-subdivide-weight-value-requires Inv-loop μ-loop
-subdivide-weight-value-requires c κs = search needs
 
 mul-rungs-3 : tie.Need-mul-rungs-3 Inv-loop μ-loop
 mul-rungs-3 c = omega arith
@@ -55,9 +49,6 @@ loop-again c =
     let at = c .before .before .before .loop in
     let more = rungs-more (at .n) (at .rungs) (at .w) (c .before .before .loop-test .taken) in
     (omega arith, rw (c .before .scale-of .ensures, c .subdivide-weight-value .ensures) (more ∙ at .inv .1))
-
-scale-of-requires-2 : tie.Need-scale-of-requires-2 Inv-loop μ-loop
-scale-of-requires-2 c κs = search needs
 
 element-write-rungs-3 : tie.Need-element-write-rungs-3 Inv-loop μ-loop
 element-write-rungs-3 c = search needs
@@ -81,18 +72,18 @@ ladder-spec =
     μ-loop
     loop-holds
     sub-n
-    scale-of-requires
+    (λ c κs. tt)
     mul-rungs
     mul-rungs-2
     element-write-rungs
-    subdivide-weight-value-requires
+    (λ c κs. tt)
     mul-rungs-3
     add-rungs
     mul-rungs-4
     element-write-rungs-2
     loop-less
     loop-again
-    scale-of-requires-2
+    (λ c κs. tt)
     element-write-rungs-3
     returns
     returns-2)

@@ -56,14 +56,4 @@ returns c =
 
 pub pin-spec : {M : Type 1} → statement M
 pin-spec =
-    tie.close
-    (tie.spec
-    Inv-loop
-    μ-loop
-    loop-holds
-    put-requires
-    add-i
-    loop-less
-    loop-again
-    same-length
-    returns)
+    tie.close (tie.spec Inv-loop μ-loop loop-holds put-requires add-i loop-less loop-again same-length returns)

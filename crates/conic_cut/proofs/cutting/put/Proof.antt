@@ -34,13 +34,4 @@ returns c = (omega arith, rw add-one)
 
 pub put-spec : {M : Type 1} → statement M
 put-spec =
-    tie.close
-    (tie.spec
-    mul-out
-    slice-write-out
-    add-next
-    mul-out-2
-    slice-write-out-2
-    add-result
-    same-length
-    returns)
+    tie.close (tie.spec mul-out slice-write-out add-next mul-out-2 slice-write-out-2 add-result same-length returns)

@@ -11,12 +11,6 @@ use Rattle.conic_cut.proofs.Stores.{ends-pinned}
 use Rattle.conic_cut.proofs.cutting.store.Statement.{statement}
 use Rattle.conic_cut.proofs.cutting.store.Tie as tie
 
-is-finite-requires : tie.Need-is-finite-requires
-is-finite-requires c κs = search needs
-
-is-finite-requires-2 : tie.Need-is-finite-requires-2
-is-finite-requires-2 c κs = search needs
-
 store-cut-requires : tie.Need-store-cut-requires
 store-cut-requires c κs = search needs
 
@@ -45,8 +39,8 @@ pub store-spec : {M : Type 1} → statement M
 store-spec =
     tie.close
     (tie.spec
-    is-finite-requires
-    is-finite-requires-2
+    (λ c κs. tt)
+    (λ c κs. tt)
     store-cut-requires
     same-length
     returns

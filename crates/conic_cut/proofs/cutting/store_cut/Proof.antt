@@ -39,9 +39,6 @@ part-all-finite-start c = search needs
 part-all-finite-end : tie.Need-part-all-finite-end
 part-all-finite-end c = search needs
 
-all-finite-requires : tie.Need-all-finite-requires
-all-finite-requires c κs = search needs
-
 same-length : tie.Need-same-length
 same-length c = search needs
 
@@ -83,7 +80,7 @@ store-cut-spec =
     sub-all-finite
     part-all-finite-start
     part-all-finite-end
-    all-finite-requires
+    (λ c κs. tt)
     same-length
     returns
     store-pinned-requires
