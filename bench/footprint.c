@@ -12,17 +12,16 @@ static const float bridge[6] = {1000, 1000, 1500, 1100, 2000, 2400};
 static float out[NZ_CUT_ROOM(NZ_MAX_LEVEL)];
 static float places[128];
 static nz_len quads;
-
-static void *nothing(void *p) {
-    return p;
-}
+static unsigned char *frame; // of the function that calls
 
 static void *in_order(void *p) {
+    frame = __builtin_frame_address(0);
     nz_cut_in_order(bridge, 6, 0.75f, NZ_MAX_LEVEL, out, NZ_CUT_ROOM(NZ_MAX_LEVEL));
     return p;
 }
 
 static void *automatic(void *p) {
+    frame = __builtin_frame_address(0);
     nz_auto_conic_to_quads(bridge, 6, 0.75f, places, &quads);
     return p;
 }
@@ -37,13 +36,13 @@ static size_t deep(void *(*call)(void *)) {
     pthread_join(thread, NULL);
     size_t k = 0;
     while (k < ROOM && stack[k] == PAINT) k++;
+    size_t used = frame - (stack + k);
     free(stack);
-    return ROOM - k;
+    return used;
 }
 
 int main(void) {
-    size_t base = deep(nothing); // what a thread takes of itself
-    printf("stack of nz_cut_in_order at level 4: %zu bytes\n", deep(in_order) - base);
-    printf("stack of nz_auto_conic_to_quads: %zu bytes\n", deep(automatic) - base);
+    printf("stack of nz_cut_in_order at level 4: %zu bytes\n", deep(in_order));
+    printf("stack of nz_auto_conic_to_quads: %zu bytes\n", deep(automatic));
     return 0;
 }

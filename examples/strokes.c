@@ -27,7 +27,10 @@ int main(void) {
     // from (1000, 1000) to (2000, 2400) milliseconds since the session began: recorded across, corrected up
     const float bridge[6] = {1000, 1000, 1500, 1100, 2000, 2400};
     float points[NZ_CUT_ROOM(NZ_MAX_LEVEL)];
-    if (!nz_between_exact(bridge[1], bridge[3], bridge[5])) return 1; // no promise on the order of such a cut
+    // there is a promise on the order of a cut only where these hold
+    for (int k = 0; k < 6; k++)
+        if (!nz_is_finite_f32(bridge[k])) return 1;
+    if (!nz_between_exact(bridge[1], bridge[3], bridge[5])) return 1;
     uint32_t answer = nz_cut_in_order(bridge, 6, 0.75f, 2, points, NZ_CUT_ROOM(2));
     printf("cut at level 2: answer %u\n", answer);
     if (answer != NZ_OK || !forward(points, 4)) return 1;

@@ -30,7 +30,8 @@ fn main() {
     // from (1000, 1000) to (2000, 2400) milliseconds since the session began: recorded across, corrected up
     let bridge: [f32; 6] = [1000.0, 1000.0, 1500.0, 1100.0, 2000.0, 2400.0];
     let mut points = [0.0; nz_cut_room(NZ_MAX_LEVEL) as usize];
-    // no promise on the order of a cut whose middle y is elsewhere
+    // there is a promise on the order of a cut only where these hold
+    assert!(bridge.iter().all(|&x| unsafe { nz_is_finite_f32(x) }));
     assert!(unsafe { nz_between_exact(bridge[1], bridge[3], bridge[5]) });
     let answer = cut(&bridge, 0.75, 2, &mut points);
     println!("cut at level 2: answer {answer}");

@@ -1,4 +1,5 @@
-/* Nyerdzumak: conics cut into quads whose ys keep one direction, and the float geometry below them.
+/* Nyerdzumak: conics cut into quads whose ys keep one direction (nz_cut_in_order says of which conics), and the float
+ * geometry below. For C99 or newer, and C++.
  *
  * ANSWERS. Every call ends, on any bits, and reads and writes what is said here and nothing else. A call that can refuse
  * returns one of the numbers below, NZ_OK or why it did nothing; of several that apply the first in this order is given:
@@ -10,10 +11,12 @@
  *
  * BUFFERS. Points are numbers, x then y. A lent buffer is a pointer and then its length in numbers, not in points or
  * bytes. The pointer must be good for that length and must not be NULL, not even with length 0. A buffer must not overlap
- * another argument's memory. Matrices are the exception: out may be the same array as m, a or b.
+ * another argument's memory. Matrices are the exception: where out is a matrix it may be the same array as m, a or b, but
+ * not overlap it otherwise.
  *
  * FLOATS. What is proved is proved of IEEE 754 arithmetic: round to nearest, subnormals kept. Do not set flush-to-zero or
- * another rounding mode; linking with -ffast-math sets flush-to-zero at start-up, and then a cut can turn back.
+ * another rounding mode; linking with -ffast-math sets flush-to-zero at start-up, and then cuts of numbers near 1e-38 turn
+ * back.
  * A NaN that is computed may have any NaN's bits.
  *
  * docs/RULES.md has the rules in full.
@@ -38,7 +41,8 @@
 #define NZ_OUT_OF_RANGE 8u        /* t outside its range, or NaN */
 #define NZ_ODD_LENGTH 9u          /* a buffer of points as numbers has odd length, in mapping only */
 
-/* the highest level of a cut, and the room in numbers that a cut at a level needs: 6, 10, 18, 34, 66 */
+/* the highest level of a cut, and the room in numbers that a cut at a level up to that one needs: 6, 10, 18, 34, 66; test a
+ * level that is not yours before you use it here */
 #define NZ_MAX_LEVEL 4u
 #define NZ_CUT_ROOM(level) (2u * ((2u << (level)) + 1u))
 
@@ -56,23 +60,25 @@ extern "C" {
 
 /* Cuts a conic into 2^level quads by the exact between test. Writes 2 * 2^level + 1 points, which the quads share:
  * NZ_CUT_ROOM(level) numbers.
- *   The promise. From three finite points whose middle y lies between the end ys or equals one of them, whatever the
- * weight, all written points are finite, the first and the last are the conic's own, and along the points the ys keep one
- * direction, rising or falling, ties allowed. Test the middle y with nz_between_exact: where it fails, the cut is made and
- * answered with NZ_OK all the same, and can turn back. The promise is of the ys: the xs can turn back too, for weights
- * below 0 above all.
+ *   The promise. From three points of finite coordinates whose middle y lies between the end ys or equals one of them,
+ * whatever the weight, all written coordinates are finite, the first and the last point are the conic's own, and along the
+ * points the ys keep one direction, rising or falling, ties allowed (falling where the last y is below the first: test that
+ * if later must not become earlier). Test the middle y with nz_between_exact and each coordinate with nz_is_finite_f32: where
+ * either fails, the cut is made and answered with NZ_OK all the same, and can turn back. The promise is of the ys: the xs
+ * can turn back too, for weights below 0 and through rounding.
  *   Pinning. Where a written point fails nz_point_is_finite, every written point but the first and the last is the
- * conic's middle point. That is a test of x * y, which overflows from about 1.8e19 on: (0,0), (1e20,1e20), (2e20,2e20),
- * weight 0.7, is pinned.
+ * conic's middle point, and the answer is NZ_OK. That is a test of x * y, which overflows from about 1.8e19 on: (0,0),
+ * (1e20,1e20), (2e20,2e20), weight 0.7, is pinned.
  *   Answers NZ_OK, NZ_LEVEL_TOO_HIGH or NZ_BUFFER_TOO_SHORT. */
 uint32_t nz_cut_in_order(const float *NZ_RESTRICT src, nz_len src_len, float weight, uint32_t level, float *NZ_RESTRICT out, nz_len out_len);
 
 /* The same, pinning too, by the test of tiny-skia-path, on a product, which may overflow or underflow: there is no promise
- * on its order, and such a cut does turn back. The same answers. */
+ * on its order, and some bridges that fulfil the condition above turn back. The same answers. */
 uint32_t nz_conic_chop_into_quads_pow2(const float *NZ_RESTRICT src, nz_len src_len, float weight, uint32_t level, float *NZ_RESTRICT out, nz_len out_len);
 
-/* The level, from 1 to 4, at which the quads are within the tolerance of the conic. At 4 they need not be: that is the
- * highest, given too where the error is larger ((0,0), (0,1024), (0,0), weight 0, tolerance 0.25) or NaN.
+/* The least level, from 1 on, at which an estimate of the quads' distance from the conic is within the tolerance; 4 at most,
+ * where it need not be ((0,0), (0,1024), (0,0), weight 0, tolerance 0.25, or an estimate that is NaN). For weights below 0
+ * the quads can be far off all the same.
  * Answers NZ_OK, NZ_BAD_TOLERANCE, NZ_BUFFER_TOO_SHORT or NZ_POINT_NOT_FINITE. */
 uint32_t nz_conic_compute_quad_pow2(const float *NZ_RESTRICT src, nz_len src_len, float weight, float tolerance, uint32_t *level);
 
@@ -107,7 +113,7 @@ uint32_t nz_chop_cubic_at2(const float *NZ_RESTRICT src, nz_len src_len, float t
 /* Where a quad's curvature is greatest: 0, 1 or between. Answers NZ_OK, NZ_BUFFER_TOO_SHORT or NZ_CURVATURE_UNDEFINED. */
 uint32_t nz_find_quad_max_curvature(const float *NZ_RESTRICT src, nz_len src_len, float *t);
 
-/* ---- roots, each strictly between 0 and 1, rising ---- */
+/* ---- roots, each strictly between 0 and 1, rising; these return a count and no answer, but for nz_find_cubic_inflections ---- */
 
 /* numer / denom, if it lies strictly between 0 and 1. Returns how many there are, 0 or 1. */
 uint32_t nz_valid_unit_divide(float numer, float denom, float *root);
@@ -115,7 +121,8 @@ uint32_t nz_valid_unit_divide(float numer, float denom, float *root);
 /* The roots of a * t^2 + b * t + c. Returns how many there are, 0 to 2. */
 uint32_t nz_find_unit_quad_roots(float a, float b, float c, float roots[2]);
 
-/* Where a quad or a cubic turns back along an axis on which its points are a, b, c (and d). Returns in how many places. */
+/* Where a quad's or a cubic's derivative is zero along an axis on which its points are a, b, c (and d). Returns in how many
+ * places. */
 uint32_t nz_find_quad_extrema(float a, float b, float c, float *root);
 uint32_t nz_find_cubic_extrema(float a, float b, float c, float d, float roots[2]);
 

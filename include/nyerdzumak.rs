@@ -16,7 +16,7 @@ pub const NZ_ODD_LENGTH: u32 = 9;
 
 pub const NZ_MAX_LEVEL: u32 = 4;
 
-// The room in numbers that a cut at a level needs.
+// The room in numbers that a cut at a level up to NZ_MAX_LEVEL needs.
 pub const fn nz_cut_room(level: u32) -> u64 {
     2 * ((2 << level) + 1)
 }

@@ -108,7 +108,9 @@ fn no_number(place: u32) {
     if place < 7 {
         text(b"no whole number from -16777216 to 16777216\n");
     } else if place < 8 {
-        text(b"no number such as 2 or -0.75, with at most 7 digits, 6 of them behind the point\n");
+        text(
+            b"no number such as 2 or -0.75, with at most 7 digits, at most 6 of them behind the point\n",
+        );
     } else {
         text(b"no whole number from 0 to 999999999\n");
     }

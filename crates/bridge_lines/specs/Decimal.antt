@@ -1,4 +1,4 @@
--- What a word comes to as a decimal number. Definitions only.
+-- What a word comes to as a decimal number (docs/RULES.md, "Bridges as text"). Definitions only.
 use Prim.Native.Nat.{ℕ, _+_, _-_, _*_, _^_}
 use mathlib.Core.Bool.{Bool, true, cond, _&&_, _||_}
 use mathlib.Core.List.{List, [], _∷_}

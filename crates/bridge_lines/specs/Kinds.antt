@@ -1,4 +1,4 @@
--- The kinds of bytes that are looked for. Definitions only.
+-- The kinds of bytes that are looked for (docs/RULES.md, "Bridges as text"). Definitions only.
 use Prim.Native.Nat.{ℕ}
 use mathlib.Core.Bool.{Bool, not}
 use Rattle.bridge_lines.specs.declared.scan.Kind.{Kind}

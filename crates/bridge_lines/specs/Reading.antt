@@ -1,4 +1,4 @@
--- What a line comes to, by its words. Definitions only.
+-- What a line comes to, by its words (docs/RULES.md, "Bridges as text"). Definitions only.
 use Prim.Native.Nat.{ℕ, _+_}
 use mathlib.Core.Bool.{Bool, cond, _&&_}
 use mathlib.Core.List.{List, [], _∷_}

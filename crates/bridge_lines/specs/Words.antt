@@ -1,4 +1,4 @@
--- The bytes of a line, and its words. Definitions only.
+-- The bytes of a line, and its words (docs/RULES.md, "Bridges as text"). Definitions only.
 use Prim.Native.Nat.{ℕ}
 use mathlib.Core.Bool.{Bool, cond, _&&_, _||_}
 use mathlib.Core.List.{List, [], _∷_, _++_}

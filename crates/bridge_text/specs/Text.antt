@@ -1,4 +1,4 @@
--- A number as text, in 14 columns. Definitions only.
+-- A number as text, in 14 columns (docs/RULES.md, "Bridges as text"). Definitions only.
 use Prim.Native.Nat.{ℕ, _+_, _/_, _%_, max}
 use mathlib.Core.Bool.{Bool, cond, _&&_}
 use mathlib.Core.List.{List, [], _∷_}

@@ -1,4 +1,4 @@
--- The size of a float in thousandths. Definitions only.
+-- The size of a float in thousandths (docs/RULES.md, "Bridges as text"). Definitions only.
 use Prim.Native.Nat.{ℕ, _+_, _*_, _/_, min}
 use lib.Ieee.{Float, nan, inf, fin, up, down}
 

@@ -1,4 +1,4 @@
--- Where two rules answer every question of a chop alike. Definitions only.
+-- Where two rules answer every question of a chop alike (docs/RULES.md, "Conics"). Definitions only.
 use mathlib.Core.Path.{_≡_}
 use lib.Dec.{T}
 use lib.Ieee.{Float}

@@ -1,4 +1,4 @@
--- The two between tests of b against a and c. Definitions only.
+-- The two between tests of b against a and c (docs/RULES.md, "Conics"). Definitions only.
 use mathlib.Core.Bool.{Bool, _&&_, _||_}
 use lib.Ieee.{Float, le}
 use Rattle.float_laws.specs.Formula.{_⊖_, _⊗_, zero32}

@@ -1,4 +1,4 @@
--- What a chop makes of a conic: the formulas, operation by operation, for one axis at a time. Definitions only.
+-- What a chop makes of a conic: the formulas, operation by operation, for one axis at a time (docs/RULES.md, "Conics"). Definitions only.
 use mathlib.Core.Bool.{Bool, true, false, cond}
 use lib.Ieee.{Float, binary32}
 use Rattle.float_laws.specs.Formula.{_⊕_, _⊗_, _⊘_, _⊞_, _⊠_, _⧄_, half32, one32, half64, one64, two64}

@@ -1,4 +1,5 @@
--- The level choice: how far one quad would be from a conic, and how often that is quartered until it is within the tolerance. Definitions only.
+-- The level choice: how far one quad would be from a conic, and how often that is quartered until it is within the tolerance
+-- (docs/RULES.md, "Conics"). Definitions only.
 use Prim.Native.Nat.{ℕ, zero, suc}
 use mathlib.Core.Path.{_≡_}
 use mathlib.Core.Bool.{Bool, not, cond, _&&_, _||_}
@@ -13,7 +14,7 @@ use Rattle.conic.specs.declared.Level.{Level}
 use Rattle.conic.specs.declared.Level.the-variants.{Pow2, Refused}
 use Rattle.conic.specs.declared.Refusal.{Refusal}
 use Rattle.conic.specs.declared.Refusal.the-variants.{BufferTooShort, PointNotFinite, BadTolerance}
-use Rattle.conic.specs.Refusal.{numberOf, valuesOf, numberOfLevel, valuesOfLevel}
+use Rattle.conic.specs.Refusal.{numberOfRefusal, valuesOfRefusal, numberOfLevel, valuesOfLevel}
 
 abbrev pub ceiling : ℕ
 ceiling = 4
@@ -61,5 +62,5 @@ levelAnswer short c t = refuseLevel short c t Refused (Pow2 (levelOf c t))
 -- the answer, its number and its values; two answers that meet it are one (`one-chosen` of proofs/Unique)
 pub record Chosen (short : Bool) (c : Conic) (t : Float) (r : Level) : Type 0 where
   pub answer : r ≡ levelAnswer short c t
-  pub number : numberOfLevel r ≡ refuseLevel short c t numberOf 0
-  pub values : valuesOfLevel r ≡ refuseLevel short c t valuesOf (levelOf c t ∷ [])
+  pub number : numberOfLevel r ≡ refuseLevel short c t numberOfRefusal 0
+  pub values : valuesOfLevel r ≡ refuseLevel short c t valuesOfRefusal (levelOf c t ∷ [])

@@ -1,4 +1,5 @@
--- The corrections after a chop, along one axis: what a rule makes of the line l from the start a to the end c. Definitions only.
+-- The corrections after a chop, along one axis: what a rule makes of the line l from the start a to the end c (docs/RULES.md, "Conics").
+-- Definitions only.
 use mathlib.Core.Bool.{Bool, cond, _&&_}
 use lib.Ieee.{Float, lt}
 use Rattle.float_laws.specs.Absolute.{absOf}

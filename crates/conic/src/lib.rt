@@ -2,13 +2,11 @@
 // Carried over from `path_geometry.rs` of tiny-skia-path 0.12.0; the rules, and an answer for each refusal, are added.
 ghost use mathlib.Core.Path.{_≡_};
 ghost use mathlib.Core.Bool.{false};
-ghost use lib.Dec.{ltb};
-ghost use lib.ListN.{length};
 ghost use Rattle.conic.specs.Between.{productTest, exactTest, test};
 ghost use Rattle.conic.specs.Chop.{conicFrom, weightOf, chopOf, chopBy};
 ghost use Rattle.conic.specs.Level.{Chosen};
-ghost use Rattle.conic.specs.Refusal.{numberOf, numberOfFromPoints, numberOfLevel};
-ghost use Rattle.conic.specs.Source.{conicOf, Taken};
+ghost use Rattle.conic.specs.Refusal.{numberOfRefusal, numberOfFromPoints, numberOfLevel};
+ghost use Rattle.conic.specs.Source.{conicOf, shortSource, Taken};
 use depth::Depth;
 use point::Point;
 
@@ -48,7 +46,7 @@ pub enum Refusal {
 impl Refusal {
     // Its number in docs/RULES.md, "Answer numbers".
     pub fn number(self) -> u32
-        ensures { λ r. ⌜ r ≡ numberOf self ⌝ }
+        ensures { λ r. ⌜ r ≡ numberOfRefusal self ⌝ }
     {
         match self {
             Refusal::LevelTooHigh => 1,
@@ -192,7 +190,7 @@ impl Conic {
 
     // The same of the conic of the first six numbers. Fewer are refused after a bad tolerance.
     pub fn compute_quad_pow2_from(src: &[f32], weight: f32, tolerance: f32) -> Level
-        ensures { λ r. ⌜ Chosen (ltb (length (now (src .entry))) 6) (conicOf (now (src .entry)) weight) tolerance r ⌝ }
+        ensures { λ r. ⌜ Chosen (shortSource (now (src .entry))) (conicOf (now (src .entry)) weight) tolerance r ⌝ }
     {
         let bad = leveling::is_bad(tolerance);
         if bad {

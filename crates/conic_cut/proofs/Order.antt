@@ -18,7 +18,7 @@ use Rattle.conic.specs.declared.Rule.{Rule}
 use Rattle.conic.specs.Chop.{Axis, X, Y, along, halvesAt, chopAt, chopBy}
 use Rattle.conic.proofs.Ways.{Way, Runs, up-way, down-way, PutsInOrder, halves-run}
 use Rattle.conic_cut.specs.Cut.{cutPoints, allFinite, plain, pinned, written}
-use Rattle.conic_cut.specs.Order.{Steps, OneWay, Finite, AllFinite, firstOf, lastOf, Bridge, InOrder}
+use Rattle.conic_cut.specs.Order.{Steps, OneWay, FiniteCoordinates, AllFiniteCoordinates, firstOf, lastOf, Premise, InOrder}
 use Rattle.conic_cut.proofs.Stores.{KeepsEnd, inner, cut-split}
 
 -- ---- a step whose halves start and end where the conic does, and meet
@@ -67,8 +67,8 @@ module _ (W : Way) (k : Axis) (p e : Point) (self : T (W .rel (along k p) (along
   pinned-steps s zero low = (W .through (along k s) (along k p) (along k e) low high, tt)
   pinned-steps s (suc m) low = (low, pinned-steps p m self)
 
-pinned-finite : (p e : Point) (m : ℕ) → Finite p → Finite e → AllFinite (replicate m p ++ (e ∷ []))
-unfolding AllFinite
+pinned-finite : (p e : Point) (m : ℕ) → FiniteCoordinates p → FiniteCoordinates e → AllFiniteCoordinates (replicate m p ++ (e ∷ []))
+unfolding AllFiniteCoordinates
 pinned-finite p e zero h j = (j, tt)
 pinned-finite p e (suc m) h j = (h, pinned-finite p e m h j)
 
@@ -77,7 +77,7 @@ written-by : (P : List Point → Type 0) (b : Bool) (x y : List Point) → (T b 
 written-by P true x y h j = h tt
 written-by P false x y h j = j
 
-module _ (k : Axis) (u : Rule) (o : PutsInOrder k u) (n : ℕ) (c : Conic) (g : Bridge k c) where
+module _ (k : Axis) (u : Rule) (o : PutsInOrder k u) (n : ℕ) (c : Conic) (g : Premise k c) where
   abbrev runs-of : (W : Way) → T (W .rel (along k (c .p0)) (along k (c .p1))) × T (W .rel (along k (c .p1)) (along k (c .p2))) → Runs W k c
   runs-of W h = record { first = g .start k; last = g .end k; low = h .0; high = h .1 }
 
@@ -100,21 +100,21 @@ module _ (k : Axis) (u : Rule) (o : PutsInOrder k u) (n : ℕ) (c : Conic) (g : 
       (up-way .seen (along k (c .p0)) (along k (c .p1)) (along k (c .p2)) (g .between))
 
 -- ---- what passes the crate's finite test is finite in each coordinate
-coordinates : (p : Point) → T (pointFinite p) → Finite p
+coordinates : (p : Point) → T (pointFinite p) → FiniteCoordinates p
 coordinates p h X = mul-finite binary32 (p .x) (p .y) h .0
 coordinates p h Y = mul-finite binary32 (p .x) (p .y) h .1
 
-passed-finite : (ps : List Point) → T (allFinite ps) → AllFinite ps
-unfolding allFinite AllFinite
+passed-finite : (ps : List Point) → T (allFinite ps) → AllFiniteCoordinates ps
+unfolding allFinite AllFiniteCoordinates
 passed-finite [] t = tt
 passed-finite (p ∷ ps) t = (coordinates p (and-l (pointFinite p) (allFinite ps) t), passed-finite ps (and-r (pointFinite p) (allFinite ps) t))
 
 -- by a rule that puts the axis in order, a cut is in order
-pub cut-in-order : (k : Axis) (u : Rule) → PutsInOrder k u → (n : ℕ) (c : Conic) → Bridge k c → InOrder k c (written (chopBy u) n c)
-unfolding written pinned firstOf lastOf AllFinite
+pub cut-in-order : (k : Axis) (u : Rule) → PutsInOrder k u → (n : ℕ) (c : Conic) → Premise k c → InOrder k c (written (chopBy u) n c)
+unfolding written pinned firstOf lastOf AllFiniteCoordinates
 cut-in-order k u o n c g =
     let m = 2 * 2 ^ n - 1 in
-    let ends : List Point → Type 0 = λ ps. AllFinite ps × (firstOf (c .p0) ps ≡ c .p0) × (lastOf (c .p0) ps ≡ c .p2) in
+    let ends : List Point → Type 0 = λ ps. AllFiniteCoordinates ps × (firstOf (c .p0) ps ≡ c .p0) × (lastOf (c .p0) ps ≡ c .p2) in
     let rest = written-by ends (allFinite (plain (chopBy u) n c)) (plain (chopBy u) n c) (pinned n c)
     (λ t. (passed-finite (plain (chopBy u) n c) t, refl, cut-last (chopBy u) (joined u .end) n c (c .p0)))
     ((g .start, pinned-finite (c .p1) (c .p2) m (g .middle) (g .end)), refl, last-is (c .p0) (c .p2) (replicate m (c .p1))) in

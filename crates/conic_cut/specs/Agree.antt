@@ -1,4 +1,4 @@
--- Where two rules answer every question of a cut alike. Definitions only.
+-- Where two rules answer every question of a cut alike (docs/RULES.md, "Conics"). Definitions only.
 use Prim.Native.Nat.{ℕ, zero, suc}
 use Rattle.conic.specs.declared.Conic.{Conic}
 use Rattle.conic.specs.declared.Halves.{Halves}

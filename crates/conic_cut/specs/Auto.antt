@@ -1,4 +1,4 @@
--- What `AutoConicToQuads` answers: the product rule's cut at the level for a tolerance of a quarter. Definitions only.
+-- What `AutoConicToQuads` answers: the product rule's cut at the level for a tolerance of a quarter (docs/RULES.md, "Conics"). Definitions only.
 use Prim.Native.Nat.{ℕ, _^_}
 use mathlib.Core.Path.{_≡_}
 use mathlib.Core.Bool.{cond}
@@ -16,7 +16,7 @@ use Rattle.conic_cut.specs.declared.AutoConicToQuads.{AutoConicToQuads}
 use Rattle.conic_cut.specs.declared.Cut.{Cut}
 use Rattle.conic_cut.specs.declared.Cut.the-variants.{Quads, Refused}
 use Rattle.point.specs.Numbers.{flat}
-use Rattle.conic.specs.Refusal.{numberOf, valuesOf}
+use Rattle.conic.specs.Refusal.{numberOfRefusal, valuesOfRefusal}
 use Rattle.conic_cut.specs.Cut.{written, room, numberOfCut, valuesOfCut}
 
 unfoldable pub zeros : List Float
@@ -38,6 +38,6 @@ autoPoints c = refuseAuto c (λ _. zeros) (flat (written (chopBy Product) (autoL
 -- the answer, its number and its values, and the points; two results that meet it are one (`one-computed` of proofs/Unique)
 pub record Computed (c : Conic) (r : AutoConicToQuads) : Type 0 where
   pub answer : r .answer ≡ autoAnswer c
-  pub number : numberOfCut (r .answer) ≡ refuseAuto c numberOf 0
-  pub values : valuesOfCut (r .answer) ≡ refuseAuto c valuesOf (2 ^ autoLevel c ∷ [])
+  pub number : numberOfCut (r .answer) ≡ refuseAuto c numberOfRefusal 0
+  pub values : valuesOfCut (r .answer) ≡ refuseAuto c valuesOfRefusal (2 ^ autoLevel c ∷ [])
   pub points : r .points ≡ autoPoints c

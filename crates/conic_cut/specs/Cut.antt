@@ -14,7 +14,7 @@ use Rattle.conic.specs.declared.Halves.{Halves}
 use Rattle.conic.specs.declared.Refusal.{Refusal}
 use Rattle.conic.specs.declared.Refusal.the-variants.{LevelTooHigh, BufferTooShort}
 use Rattle.conic.specs.Level.{ceiling}
-use Rattle.conic.specs.Refusal.{numberOf, valuesOf}
+use Rattle.conic.specs.Refusal.{numberOfRefusal, valuesOfRefusal}
 use Rattle.conic_cut.specs.declared.Cut.{Cut}
 use Rattle.conic_cut.specs.declared.Cut.the-variants.{Quads, Refused}
 
@@ -44,29 +44,29 @@ room n = 2 * (2 * 2 ^ n + 1)
 
 -- ---- the call, at the level n, into a buffer of len numbers, from a source that may be short
 -- the first refusal that applies, 1, then 2; and else what is well
-abbrev pub refuse : {A : Type 0} → ℕ → ℕ → Bool → (Refusal → A) → A → A
-refuse n len short refused well =
+abbrev pub refuseCut : {A : Type 0} → ℕ → ℕ → Bool → (Refusal → A) → A → A
+refuseCut n len short refused well =
     cond (ltb ceiling n) (refused LevelTooHigh)
     (cond (ltb len (room n) || short) (refused BufferTooShort) well)
 
 unfoldable pub cutAnswer : ℕ → ℕ → Bool → Cut
-cutAnswer n len short = refuse n len short Refused (Quads (2 ^ n))
+cutAnswer n len short = refuseCut n len short Refused (Quads (2 ^ n))
 
 unfoldable pub cutBuffer : (Conic → Halves) → ℕ → Conic → Bool → List Float → List Float
-cutBuffer f n c short l = refuse n (length l) short (λ _. l) (flat (written f n c) ++ drop (room n) l)
+cutBuffer f n c short l = refuseCut n (length l) short (λ _. l) (flat (written f n c) ++ drop (room n) l)
 
 -- the number of an answer in docs/RULES.md, "Answer numbers", and its values: how many quads
 abbrev pub numberOfCut : Cut → ℕ
 numberOfCut (Quads q) = 0
-numberOfCut (Refused r) = numberOf r
+numberOfCut (Refused r) = numberOfRefusal r
 
 abbrev pub valuesOfCut : Cut → List ℕ
 valuesOfCut (Quads q) = q ∷ []
-valuesOfCut (Refused r) = valuesOf r
+valuesOfCut (Refused r) = valuesOfRefusal r
 
 -- the answer, its number and its values, and the buffer at exit; two that meet it are one (`one-cut` of proofs/Unique)
 pub record CutInto (f : Conic → Halves) (n : ℕ) (c : Conic) (short : Bool) (l : List Float) (r : Cut) (l₁ : List Float) : Type 0 where
   pub answer : r ≡ cutAnswer n (length l) short
-  pub number : numberOfCut r ≡ refuse n (length l) short numberOf 0
-  pub values : valuesOfCut r ≡ refuse n (length l) short valuesOf (2 ^ n ∷ [])
+  pub number : numberOfCut r ≡ refuseCut n (length l) short numberOfRefusal 0
+  pub values : valuesOfCut r ≡ refuseCut n (length l) short valuesOfRefusal (2 ^ n ∷ [])
   pub buffer : l₁ ≡ cutBuffer f n c short l

@@ -1,5 +1,5 @@
 -- What all conics of one depth of a cut share, two numbers for each level: the scale of a chop there, and the weight of the halves.
--- Halves of level 0 are not cut again, and their weight is not there. Definitions only.
+-- Halves of level 0 are not cut again, and their weight is not there (docs/RULES.md, "Conics"). Definitions only.
 use Prim.Native.Nat.{ℕ, zero, suc, _+_, _*_}
 use mathlib.Core.Path.{_≡_}
 use mathlib.Core.List.{List}

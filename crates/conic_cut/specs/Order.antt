@@ -32,12 +32,12 @@ abbrev pub OneWay : Axis → List Point → Type 0
 OneWay k ps = Steps le k ps ⊎ Steps ge k ps
 
 -- finite in each coordinate
-abbrev pub Finite : Point → Type 0
-Finite p = (k : Axis) → T (finite (along k p))
+abbrev pub FiniteCoordinates : Point → Type 0
+FiniteCoordinates p = (k : Axis) → T (finite (along k p))
 
-unfoldable pub AllFinite : List Point → Type 0
-AllFinite [] = Unit {0}
-AllFinite (p ∷ l) = Finite p × AllFinite l
+unfoldable pub AllFiniteCoordinates : List Point → Type 0
+AllFiniteCoordinates [] = Unit {0}
+AllFiniteCoordinates (p ∷ l) = FiniteCoordinates p × AllFiniteCoordinates l
 
 -- the first and the last of the points, or s where there is none
 unfoldable pub firstOf : Point → List Point → Point
@@ -49,16 +49,16 @@ lastOf s [] = s
 lastOf s (p ∷ l) = lastOf p l
 
 -- three finite points, along k the middle one between the ends or level with one; the weight may be anything
-pub record Bridge (k : Axis) (c : Conic) : Type 0 where
-  pub start : Finite (c .p0)
-  pub middle : Finite (c .p1)
-  pub end : Finite (c .p2)
+pub record Premise (k : Axis) (c : Conic) : Type 0 where
+  pub start : FiniteCoordinates (c .p0)
+  pub middle : FiniteCoordinates (c .p1)
+  pub end : FiniteCoordinates (c .p2)
   pub between : T (exactTest (along k (c .p0)) (along k (c .p1)) (along k (c .p2)))
 
 -- the points lead from the conic's start to its end, all finite, and along k they only rise or only fall
 pub record InOrder (k : Axis) (c : Conic) (ps : List Point) : Type 0 where
   pub one-way : OneWay k ps
-  pub all-finite : AllFinite ps
+  pub all-finite : AllFiniteCoordinates ps
   pub first : firstOf (c .p0) ps ≡ c .p0
   pub last : lastOf (c .p0) ps ≡ c .p2
 
@@ -71,4 +71,4 @@ pub record OrderedCut (k : Axis) (n : ℕ) (c : Conic) (l l₁ : List Float) : T
 
 -- docs/RULES.md, "Order": by the exact rule, of the ys
 abbrev pub OrderKept : Rule → ℕ → Conic → List Float → List Float → Type 0
-OrderKept u n c l l₁ = u ≡ Exact → n ≤ ceiling → room n ≤ length l → Bridge Y c → OrderedCut Y n c l l₁
+OrderKept u n c l l₁ = u ≡ Exact → n ≤ ceiling → room n ≤ length l → Premise Y c → OrderedCut Y n c l l₁

@@ -13,7 +13,8 @@ use conic::Rule;
 use conic::depth::Depth;
 use point::Point;
 
-// The highest level that the functions here take: above the ceiling of a call, so that a higher one asks nothing of them.
+// The highest level that the functions here are proved for. The calls stop at their ceiling, and were that raised up to
+// this level, nothing here would change.
 const DEEPEST: usize = 6;
 // Two numbers for each level.
 const RUNGS: usize = 2 * DEEPEST;
@@ -82,6 +83,7 @@ fn subdivide(
     }
     let less = level - 1;
     let rung = 2 * (less as usize);
+    // At level 1 the ladder holds no weight: halves of level 0 are stored, not cut.
     let scale = rungs[rung];
     let weight = rungs[rung + 1];
     let h = Depth { scale, weight }.chop(rule, c);

@@ -5,10 +5,9 @@
 ghost use mathlib.Core.Path.{_≡_};
 ghost use mathlib.Core.Bool.{false};
 ghost use Prim.Native.Nat.{_≤_};
-ghost use lib.Dec.{ltb};
 ghost use lib.ListN.{length};
 ghost use Rattle.conic.specs.Chop.{conicFrom, chopBy};
-ghost use Rattle.conic.specs.Source.{conicOf};
+ghost use Rattle.conic.specs.Source.{conicOf, shortSource};
 ghost use Rattle.conic_cut.specs.Auto.{Computed};
 ghost use Rattle.conic_cut.specs.Cut.{CutInto, numberOfCut};
 ghost use Rattle.conic_cut.specs.Order.{OrderKept};
@@ -64,7 +63,7 @@ pub fn chop_into_quads_pow2_from(
     weight: f32,
     level: u32,
 ) -> Cut
-    ensures { λ r. ⌜ CutInto (chopBy rule) level (conicOf (now (src .entry)) weight) (ltb (length (now (src .entry))) 6)
+    ensures { λ r. ⌜ CutInto (chopBy rule) level (conicOf (now (src .entry)) weight) (shortSource (now (src .entry)))
         (now (out .entry)) r (now (out .exit)) ⌝ }
     ensures order { λ _. ⌜ (6 ≤ length (now (src .entry))
         → OrderKept rule level (conicOf (now (src .entry)) weight) (now (out .entry)) (now (out .exit))) ⌝ }

@@ -97,4 +97,4 @@ abbrev pub inflectionsAnswer : List Float → Inflections
 inflectionsAnswer l = shortPick 8 l BufferTooShort (inflectionsOf (cubicInflections (cubicOf l)))
 
 abbrev pub inflectionsNumber : List Float → ℕ
-inflectionsNumber l = shortPick 8 l 2 0
+inflectionsNumber l = shortPick 8 l (numberOfInflections BufferTooShort) 0

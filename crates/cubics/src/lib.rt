@@ -30,7 +30,7 @@ pub enum Inflections {
 }
 
 impl Inflections {
-    // Its number in the table of answers.
+    // Its number in docs/RULES.md, "Answer numbers".
     pub fn number(self) -> u32
         ensures { λ r. ⌜ r ≡ C.numberOfInflections self ⌝ }
     {
@@ -39,6 +39,18 @@ impl Inflections {
             Inflections::One(_) => 0,
             Inflections::Two(_, _) => 0,
             Inflections::BufferTooShort => 2,
+        }
+    }
+
+    // How many there are; a refusal has none.
+    pub fn count(self) -> u32
+        ensures { λ r. ⌜ r ≡ length (C.valuesOfInflections self) ⌝ }
+    {
+        match self {
+            Inflections::None => 0,
+            Inflections::One(_) => 1,
+            Inflections::Two(_, _) => 2,
+            Inflections::BufferTooShort => 0,
         }
     }
 }

@@ -1,4 +1,5 @@
--- The number whose whole root is taken, over the format: of a significand in normal form the leading digits, shifted once more where the exponent is odd. Assumes nothing.
+-- The number whose whole root is taken, over the format: of a significand in normal form the leading digits, shifted once more where the
+-- exponent is odd. Assumes nothing.
 use mathlib.Core.Path.{_≡_, sym, ap, _∙_, subst}
 use mathlib.Core.Logic.{_⊎_, inl, inr}
 use Prim.Native.Nat.{ℕ, suc, _+_, _-_, _*_, _/_, _%_, _^_, _≤_, _<_}

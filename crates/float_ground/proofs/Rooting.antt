@@ -1,4 +1,5 @@
--- The law of a root in normal form, over the format: a number with two more digits behind the whole root q, by which it is rounded, rounds to the root that `rootOf` computes. Assumes nothing.
+-- The law of a root in normal form, over the format: a number with two more digits behind the whole root q, by which it is rounded,
+-- rounds to the root that `rootOf` computes. Assumes nothing.
 use mathlib.Core.Path.{_≡_, refl, sym, ap, _∙_}
 use mathlib.Core.Logic.{inl, inr}
 use mathlib.Core.Bool.{false}

@@ -1,4 +1,4 @@
--- What it is for a float to be taken apart. Definitions only.
+-- What it is for a float to be taken apart (docs/RULES.md, "The float ground"). Definitions only.
 use mathlib.Core.Path.{_≡_}
 use mathlib.Core.Logic.{_⊎_}
 use mathlib.Core.Bool.{Bool, false, not, cond}

@@ -1,4 +1,5 @@
--- Laws over a format, on `roundTo`, and so on `narrowOf`: its result fits, it leaves what fits as it is, it commutes with negation, and it keeps order. Assumes nothing.
+-- Laws over a format, on `roundTo`, and so on `narrowOf`: its result fits, it leaves what fits as it is, it commutes with negation, and
+-- it keeps order. Assumes nothing.
 use mathlib.Core.Path.{_≡_, refl, sym, ap, _∙_, subst}
 use mathlib.Core.Bool.{Bool, true, false, not, cond}
 use Prim.Native.Nat.{ℕ, zero, suc, _+_, _*_, _^_, _<_, zero-le}

@@ -1,4 +1,5 @@
--- The root of a whole number n as `rootAt` computes it, in whole numbers and over the format: twice the true root lies strictly between the sums of the result and any other value on either side of it. Assumes nothing.
+-- The root of a whole number n as `rootAt` computes it, in whole numbers and over the format: twice the true root lies strictly between
+-- the sums of the result and any other value on either side of it. Assumes nothing.
 use mathlib.Core.Path.{_≡_, sym, ap, _∙_, subst}
 use mathlib.Core.Logic.{_⊎_, inl, inr}
 use mathlib.Core.Bool.{Bool, true, false, not, cond}

@@ -1,4 +1,5 @@
--- `le` on floats is an order but for NaN: it is transitive on all values, it holds of a finite value with itself, of two numbers one is at most the other, and what lies between two finite values is finite. And a finite product has finite factors. Assumes nothing.
+-- `le` on floats is an order but for NaN: it is transitive on all values, it holds of a finite value with itself, of two numbers one is
+-- at most the other, and what lies between two finite values is finite. And a finite product has finite factors. Assumes nothing.
 use mathlib.Core.Path.{_≡_, refl, ap, _∙_}
 use mathlib.Core.Logic.{_⊎_, inl, inr, ⊎-elim}
 use Prim.Native.Nat.{ℕ, zero, suc, _+_, _*_, _≤_, _<_, zero-le, compare, Ordering, Ordering·lt, Ordering·eq, Ordering·gt}

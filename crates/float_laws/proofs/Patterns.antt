@@ -1,4 +1,6 @@
--- Laws over a format, on bit patterns. `packs`: the pattern of a sign, an exponent field k and digits q is read as q * 2 ^ k smallest values, an infinity past the largest; q may reach 2 ^ prec, where the carry goes into the field. `plain-bits`, `plain-pattern`: which patterns are no NaN. Assumes nothing.
+-- Laws over a format, on bit patterns. `packs`: the pattern of a sign, an exponent field k and digits q is read as q * 2 ^ k smallest
+-- values, an infinity past the largest; q may reach 2 ^ prec, where the carry goes into the field. `plain-bits`, `plain-pattern`: which
+-- patterns are no NaN. Assumes nothing.
 use mathlib.Core.Path.{_≡_, refl, sym, ap, _∙_, subst}
 use mathlib.Core.Logic.{_⊎_, inl, inr}
 use Prim.Native.Nat.{ℕ, suc, _+_, _-_, _*_, _/_, _%_, _^_, _≤_, _<_}

@@ -1,4 +1,5 @@
--- `rootOf` has the meaning of a square root, for every value that the format holds; and whatever has that meaning is `rootOf`. Over the format. Assumes nothing.
+-- `rootOf` has the meaning of a square root, for every value that the format holds; and whatever has that meaning is `rootOf`. Over the
+-- format. Assumes nothing.
 use mathlib.Core.Path.{_≡_, refl, sym, ap, _∙_, subst}
 use mathlib.Core.Bool.{Bool, true, false, cond}
 use Prim.Native.Nat.{ℕ, zero, suc, _+_, _-_, _*_, _/_, _^_, _≤_, _<_}

@@ -1,4 +1,5 @@
--- Laws over a format, on rounding. `round-by`: what `round` gives, by the number k of digits that it drops. `rounds`: the same of M * 2 ^ j / 2 ^ L. `shift-closest`: a number shifted down and rounded, as a program does it. Assumes nothing.
+-- Laws over a format, on rounding. `round-by`: what `round` gives, by the number k of digits that it drops. `rounds`: the same of M * 2 ^
+-- j / 2 ^ L. `shift-closest`: a number shifted down and rounded, as a program does it. Assumes nothing.
 use mathlib.Core.Path.{_≡_, refl, sym, ap, _∙_, subst}
 use mathlib.Core.Logic.{_⊎_, inl, inr}
 use Prim.Native.Nat.{ℕ, zero, suc, _+_, _-_, _*_, _/_, _%_, _^_, _≤_, _<_, compare, Ordering, Ordering·lt, Ordering·eq, Ordering·gt}

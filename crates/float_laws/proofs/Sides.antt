@@ -1,4 +1,5 @@
--- Comparisons of floats as four sides. `versus x y` is how x compares with y: one of IEEE 754's four relations, less, same, more, and apart where a NaN stands; and `lt`, `eq`, `le`, each way round, read off it. Assumes nothing.
+-- Comparisons of floats as four sides. `versus x y` is how x compares with y: one of IEEE 754's four relations, less, same, more, and
+-- apart where a NaN stands; and `lt`, `eq`, `le`, each way round, read off it. Assumes nothing.
 use mathlib.Core.Path.{_≡_, refl, sym, ap, _∙_, subst}
 use mathlib.Core.Bool.{Bool, true, false, not, _&&_, _||_}
 use Prim.Native.Nat.{ℕ, zero, suc, _+_, _*_, _<_, compare, Ordering, Ordering·lt, Ordering·eq, Ordering·gt}

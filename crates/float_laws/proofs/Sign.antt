@@ -1,4 +1,5 @@
--- Laws over a format, on the sign of a pattern: a pattern with its sign taken away is read as the absolute value. And what `x != x` and 0.0 / 0.0 say. Assumes nothing.
+-- Laws over a format, on the sign of a pattern: a pattern with its sign taken away is read as the absolute value. And what `x != x` and
+-- 0.0 / 0.0 say. Assumes nothing.
 use mathlib.Core.Path.{_≡_, refl, sym, ap, _∙_}
 use mathlib.Core.Bool.{Bool, true, false, not, cond, _&&_, true≢false}
 use Prim.Native.Nat.{ℕ, zero, suc, _+_, _-_, _*_, _/_, _%_, _<_}

@@ -1,4 +1,5 @@
--- Laws over a format, on the values that it holds: each is a whole number of smallest values with few digits, no two are the same number, and rounding one of them changes nothing. Assumes nothing.
+-- Laws over a format, on the values that it holds: each is a whole number of smallest values with few digits, no two are the same number,
+-- and rounding one of them changes nothing. Assumes nothing.
 use mathlib.Core.Path.{_≡_, refl, sym, ap, _∙_, subst}
 use mathlib.Core.Bool.{Bool, cond, _&&_}
 use Prim.Native.Nat.{ℕ, zero, suc, _+_, _-_, _*_, _/_, _%_, _^_, _≤_, _<_}

@@ -1,4 +1,4 @@
--- The meaning of an absolute value: the sign goes, a zero's too. Definitions only.
+-- The meaning of an absolute value: the sign goes, a zero's too (docs/RULES.md, "The float ground"). Definitions only.
 use mathlib.Core.Bool.{false}
 use lib.Ieee.{Float, nan, inf, fin}
 

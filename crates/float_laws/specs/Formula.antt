@@ -1,4 +1,5 @@
--- How formulas are written. Each operation rounds once: a circle to binary32, a box to binary64. And the constants in them. Definitions only.
+-- How formulas are written. Each operation rounds once: a circle to binary32, a box to binary64. And the constants in them
+-- (docs/RULES.md, "Sameness"). Definitions only.
 use lib.Ieee.{Float, binary32, binary64, add, sub, mul, div, ofBits}
 
 infixl 65 _⊕_ _⊖_ _⊞_ _⊟_

@@ -1,4 +1,5 @@
--- IEEE 754's conversion to a format: the value of the format nearest to x, a tie to the even one, as `round` has it. Definitions only.
+-- IEEE 754's conversion to a format: the value of the format nearest to x, a tie to the even one, as `round` has it (docs/RULES.md, "The
+-- float ground"). Definitions only.
 use Prim.Native.Nat.{_*_}
 use lib.Ieee.{Float, nan, inf, fin, Format, binary32, up, down, round}
 

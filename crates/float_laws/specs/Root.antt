@@ -1,4 +1,5 @@
--- The meaning of a square root, and the root as a function. There are no real numbers here, so nearness is said with both sides squared. Definitions only.
+-- The meaning of a square root, and the root as a function. There are no real numbers here, so nearness is said with both sides squared
+-- (docs/RULES.md, "The float ground"). Definitions only.
 use mathlib.Core.Path.{_≡_}
 use mathlib.Core.Bool.{Bool, true, false, cond}
 use Prim.Native.Nat.{ℕ, zero, suc, _+_, _-_, _*_, _/_, _^_, _≤_}
@@ -20,7 +21,8 @@ sums y r = (num y * den r + num r * den y) * (num y * den r + num r * den y)
 abbrev pub scale : Float → Float → ℕ
 scale y r = den y * den r * (den y * den r)
 
--- r is a value that the format holds, and of every other such value y: the middle of y and r is at most √x where y is below r, and at least √x where y is above it. So √x is no nearer to y than to r.
+-- r is a value that the format holds, and of every other such value y: the middle of y and r is at most √x where y is below r, and at
+-- least √x where y is above it. So √x is no nearer to y than to r.
 pub record NearestRoot (f : Format) (x r : Float) : Type 0 where
   pub held : T (fits f r)
   pub above-zero : T (positive r)
@@ -41,7 +43,8 @@ unfoldable pub wholeRoot : ℕ → ℕ → ℕ
 wholeRoot zero n = 0
 wholeRoot (suc d) n = let r = wholeRoot d (n / 4) in cond (leb ((r + r + 1) * (r + r + 1)) n) (r + r + 1) (r + r)
 
--- the root of n, in units of the format's smallest value: of the whole root the format keeps the `prec` leading digits, q, and takes one more where n is above the square of q and a half
+-- the root of n, in units of the format's smallest value: of the whole root the format keeps the `prec` leading digits, q, and takes one
+-- more where n is above the square of q and a half
 unfoldable pub rootAt : Format → ℕ → Float
 unfolding wholeRoot size units
 rootAt f n =

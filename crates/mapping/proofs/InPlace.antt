@@ -1,9 +1,12 @@
--- One law for every function `fn all(m: S, points: &mut [Point]) { let mut i = 0; while i < points.len() { let x = points[i].x; let y = points[i].y; points[i] = one(m, Point { x, y }); i += 1; } }` over a declared type S of plain data, where `one` is any function whose contract says that it returns f m p.
+-- One law for every function `fn all(m: S, points: &mut [Point]) { let mut i = 0; while i < points.len() { let x = points[i].x; let y =
+-- points[i].y; points[i] = one(m, Point { x, y }); i += 1; } }` over a declared type S of plain data, where `one` is any function whose
+-- contract says that it returns f m p.
 --     Had                      what is had at exit: the token, and the slice at a list
 --     turn, rest, function     the MIR, over S and the key of `one`
 --     Knows                    what is known of `one`
 --     walk                     from the token and what the parameters own the MIR runs to any Post that `Had` gives, at `map (f m)` of the list on entry
--- The borrow is opened once, before the loop, and closed once, after it. Between the two the row of points is the function's own: those below i are mapped, and the rest are as they were (`Upto.antt`).
+-- The borrow is opened once, before the loop, and closed once, after it. Between the two the row of points is the function's own: those
+-- below i are mapped, and the rest are as they were (`Upto.antt`).
 -- Assumes `Given`.
 use mathlib.Core.Path.{_≡_, refl, sym, subst}
 use Prim.Native.Nat.{ℕ, _+_, _-_, _*_, _<_, _^_}

@@ -24,7 +24,7 @@ abbrev pub mappingAnswer : List Float → Mapping
 mappingAnswer l = refuseOdd l OddLength Mapped
 
 abbrev pub mappingNumber : List Float → ℕ
-mappingNumber l = refuseOdd l 9 0
+mappingNumber l = refuseOdd l (numberOfMapping OddLength) (numberOfMapping Mapped)
 
 -- the buffer at exit
 abbrev pub mappedNumbers : Transform → List Float → List Float

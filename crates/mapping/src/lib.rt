@@ -14,7 +14,7 @@ pub enum Mapping {
 }
 
 impl Mapping {
-    // Its number in the table of answers.
+    // Its number in docs/RULES.md, "Answer numbers".
     pub fn number(self) -> u32
         ensures { λ r. ⌜ r ≡ numberOfMapping self ⌝ }
     {

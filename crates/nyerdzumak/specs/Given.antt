@@ -1,9 +1,13 @@
--- What a call leaves in lent memory: the values of its answer, and what stood there where it has none (docs/RULES.md, "The C face"). Definitions only.
+-- What a call leaves in lent memory: the values of its answer, and what stood there where it has none (docs/RULES.md, "The C face").
+-- Definitions only.
 use Prim.Native.Nat.{ℕ}
+use mathlib.Core.Bool.{cond}
 use mathlib.Core.List.{List, [], _∷_}
+use lib.Dec.{eqb}
+use lib.ListN.{length}
 use lib.Ieee.{Float}
 use Rattle.cubics.specs.declared.Inflections.{Inflections}
-use Rattle.cubics.specs.declared.Inflections.the-variants as I
+use Rattle.cubics.specs.Cubics.{numberOfInflections, valuesOfInflections}
 use Rattle.conic.specs.Source.{conicOf, refuseSource}
 use Rattle.conic_cut.specs.declared.Cut.{Cut}
 use Rattle.conic_cut.specs.declared.Cut.the-variants.{Quads, Refused}
@@ -19,12 +23,9 @@ abbrev pub filledOr : List Float → List Float → List Float
 filledOr l [] = l
 filledOr l (v ∷ vs) = v ∷ vs
 
--- how many there are, which none is too
+-- how many there are, which none is too, unless it is a refusal
 abbrev pub countOr : ℕ → Inflections → ℕ
-countOr n I.BufferTooShort = n
-countOr n I.None = 0
-countOr n (I.One r) = 1
-countOr n (I.Two r s) = 2
+countOr n found = cond (eqb (numberOfInflections found) 0) (length (valuesOfInflections found)) n
 
 -- ---- `AutoConicToQuads`: its points stand beside its answer, and are given unless that is a refusal
 abbrev pub pointsOr : List Float → Cut → List Float → List Float

@@ -1,4 +1,4 @@
--- Conics and matrices as lent numbers. Definitions only.
+-- Conics and matrices as lent numbers (docs/RULES.md, "The C face"). Definitions only.
 use mathlib.Core.List.{List, [], _∷_, _++_}
 use lib.ListN.{getD}
 use lib.Ieee.{Float, nan}

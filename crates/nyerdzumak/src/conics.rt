@@ -2,16 +2,15 @@
 ghost use mathlib.Core.Path.{_≡_};
 ghost use mathlib.Core.List.{[], _∷_};
 ghost use Prim.Native.Nat.{_≤_};
-ghost use lib.Dec.{ltb};
 ghost use lib.ListN.{length};
 ghost use Rattle.conic.specs.declared.Rule.the-variants.{Product, Exact};
 ghost use Rattle.conic.specs.Between.{productTest, exactTest};
 ghost use Rattle.conic.specs.Chop.{chopOf, chopBy};
 ghost use Rattle.conic.specs.Level.{refuseLevel, levelOf};
-ghost use Rattle.conic.specs.Refusal.{numberOf, valuesOf, numberOfLevel, valuesOfLevel};
-ghost use Rattle.conic.specs.Source.{conicOf, refuseSource};
+ghost use Rattle.conic.specs.Refusal.{numberOfRefusal, valuesOfRefusal, numberOfLevel, valuesOfLevel};
+ghost use Rattle.conic.specs.Source.{conicOf, shortSource, refuseSource};
 ghost use Rattle.conic_cut.specs.Auto.{autoPoints};
-ghost use Rattle.conic_cut.specs.Cut.{refuse, cutBuffer, numberOfCut, valuesOfCut};
+ghost use Rattle.conic_cut.specs.Cut.{refuseCut, cutBuffer, numberOfCut, valuesOfCut};
 ghost use Rattle.conic_cut.specs.Order.{OrderKept};
 ghost use Rattle.nyerdzumak.specs.Given.{firstOr, filledOr, pointsOr, autoFrom};
 ghost use Rattle.nyerdzumak.specs.Lent.{halfNumbers};
@@ -64,9 +63,9 @@ fn give_halves(c: Conic, halves: &mut [f32; 14])
 // Halves a conic as the formulas say, with no correction: x and y of three points and a weight, for each half.
 #[no_mangle]
 pub extern "C" fn nz_conic_chop(src: &[f32], weight: f32, halves: &mut [f32; 14]) -> u32
-    ensures { λ r. ⌜ r ≡ refuseSource (now (src .entry)) numberOf 0 ⌝ }
+    ensures { λ r. ⌜ r ≡ refuseSource (now (src .entry)) numberOfRefusal 0 ⌝ }
     ensures halves { λ _. ⌜ now (halves .exit) ≡ filledOr (now (halves .entry))
-        (refuseSource (now (src .entry)) valuesOf (halfNumbers (chopOf (conicOf (now (src .entry)) weight)))) ⌝ }
+        (refuseSource (now (src .entry)) valuesOfRefusal (halfNumbers (chopOf (conicOf (now (src .entry)) weight)))) ⌝ }
 {
     let answer = Conic::from_points(src, weight);
     let number = answer.number();
@@ -94,7 +93,8 @@ fn give_level(answer: Level, level: &mut u32) -> u32
     }
 }
 
-// The level at which the quads are within the tolerance of the conic, 4 at most, where they need not be.
+// The least level, from 1 on, at which the estimated distance of the quads from the conic is within the tolerance; 4 at
+// most, where it need not be.
 #[no_mangle]
 pub extern "C" fn nz_conic_compute_quad_pow2(
     src: &[f32],
@@ -102,9 +102,9 @@ pub extern "C" fn nz_conic_compute_quad_pow2(
     tolerance: f32,
     level: &mut u32,
 ) -> u32
-    ensures { λ r. ⌜ r ≡ refuseLevel (ltb (length (now (src .entry))) 6) (conicOf (now (src .entry)) weight) tolerance numberOf 0 ⌝ }
+    ensures { λ r. ⌜ r ≡ refuseLevel (shortSource (now (src .entry))) (conicOf (now (src .entry)) weight) tolerance numberOfRefusal 0 ⌝ }
     ensures level { λ _. ⌜ now (level .exit) ≡ firstOr (now (level .entry))
-        (refuseLevel (ltb (length (now (src .entry))) 6) (conicOf (now (src .entry)) weight) tolerance valuesOf
+        (refuseLevel (shortSource (now (src .entry))) (conicOf (now (src .entry)) weight) tolerance valuesOfRefusal
         (levelOf (conicOf (now (src .entry)) weight) tolerance ∷ [])) ⌝ }
 {
     give_level(Conic::compute_quad_pow2_from(src, weight, tolerance), level)
@@ -118,9 +118,9 @@ pub extern "C" fn nz_conic_chop_into_quads_pow2(
     level: u32,
     out: &mut [f32],
 ) -> u32
-    ensures { λ r. ⌜ r ≡ refuse level (length (now (out .entry))) (ltb (length (now (src .entry))) 6) numberOf 0 ⌝ }
+    ensures { λ r. ⌜ r ≡ refuseCut level (length (now (out .entry))) (shortSource (now (src .entry))) numberOfRefusal 0 ⌝ }
     ensures buffer { λ _. ⌜ now (out .exit) ≡ cutBuffer (chopBy Product) level (conicOf (now (src .entry)) weight)
-        (ltb (length (now (src .entry))) 6) (now (out .entry)) ⌝ }
+        (shortSource (now (src .entry))) (now (out .entry)) ⌝ }
 {
     conic_cut::chop_into_quads_pow2_from(out, Rule::Product, src, weight, level).number()
 }
@@ -129,9 +129,9 @@ pub extern "C" fn nz_conic_chop_into_quads_pow2(
 // ys along the written points keep one direction, rising or falling, whatever the weight. Of the xs nothing is said.
 #[no_mangle]
 pub extern "C" fn nz_cut_in_order(src: &[f32], weight: f32, level: u32, out: &mut [f32]) -> u32
-    ensures { λ r. ⌜ r ≡ refuse level (length (now (out .entry))) (ltb (length (now (src .entry))) 6) numberOf 0 ⌝ }
+    ensures { λ r. ⌜ r ≡ refuseCut level (length (now (out .entry))) (shortSource (now (src .entry))) numberOfRefusal 0 ⌝ }
     ensures buffer { λ _. ⌜ now (out .exit) ≡ cutBuffer (chopBy Exact) level (conicOf (now (src .entry)) weight)
-        (ltb (length (now (src .entry))) 6) (now (out .entry)) ⌝ }
+        (shortSource (now (src .entry))) (now (out .entry)) ⌝ }
     ensures order { λ _. ⌜ (6 ≤ length (now (src .entry)) → OrderKept Exact level (conicOf (now (src .entry)) weight) (now (out .entry))
         (now (out .exit))) ⌝ }
 {

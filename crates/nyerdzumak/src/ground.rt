@@ -4,7 +4,7 @@ ghost use lib.Ieee.{binary32, binary64};
 ghost use lib.Ieee.Scale.{finite};
 ghost use Rattle.float_laws.specs.Absolute.{absOf};
 ghost use Rattle.float_laws.specs.Narrow.{narrowOf};
-ghost use Rattle.float_laws.specs.Root.{rootOf};
+ghost use Rattle.float_laws.specs.Root.{Root, rootOf};
 ghost use Rattle.point.specs.Point.{pointFrom, pointFinite};
 use point::Point;
 
@@ -45,14 +45,16 @@ pub extern "C" fn nz_narrow(x: f64) -> f32
 
 #[no_mangle]
 pub extern "C" fn nz_sqrt_f32(x: f32) -> f32
-    ensures { λ r. ⌜ r ≡ rootOf binary32 x ⌝ }
+    ensures equal { λ r. ⌜ r ≡ rootOf binary32 x ⌝ }
+    ensures nearest { λ r. ⌜ Root binary32 x r ⌝ }
 {
     float_ground::sqrt_f32(x)
 }
 
 #[no_mangle]
 pub extern "C" fn nz_sqrt_f64(x: f64) -> f64
-    ensures { λ r. ⌜ r ≡ rootOf binary64 x ⌝ }
+    ensures equal { λ r. ⌜ r ≡ rootOf binary64 x ⌝ }
+    ensures nearest { λ r. ⌜ Root binary64 x r ⌝ }
 {
     float_ground::sqrt_f64(x)
 }

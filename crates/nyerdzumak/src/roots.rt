@@ -88,20 +88,21 @@ fn give_inflections(found: Inflections, roots: &mut [f32; 2], count: &mut u32) -
     ensures count { λ _. ⌜ now (count .exit) ≡ countOr (now (count .entry)) found ⌝ }
 {
     let number = found.number();
+    let n = found.count();
     match found {
         Inflections::None => {
-            *count = 0;
+            *count = n;
             number
         }
         Inflections::One(r) => {
             roots[0] = r;
-            *count = 1;
+            *count = n;
             number
         }
         Inflections::Two(r, s) => {
             roots[0] = r;
             roots[1] = s;
-            *count = 2;
+            *count = n;
             number
         }
         Inflections::BufferTooShort => number,

@@ -1,4 +1,4 @@
--- Points as lent numbers: x, then y, of each. Definitions only.
+-- Points as lent numbers: x, then y, of each (docs/RULES.md, "Rooms"). Definitions only.
 use Prim.Native.Nat.{ℕ, _+_}
 use mathlib.Core.List.{List, [], _∷_}
 use lib.ListN.{getD}

@@ -1,4 +1,4 @@
--- What the contracts of `Point` cite. Definitions only.
+-- What the contracts of `Point` cite (docs/RULES.md, "Conics"). Definitions only.
 use mathlib.Core.Bool.{Bool}
 use lib.Ieee.{Float}
 use lib.Ieee.Scale.{finite}

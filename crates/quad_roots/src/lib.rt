@@ -15,7 +15,7 @@ pub enum Divided {
 }
 
 impl Divided {
-    // Its number in the table of answers.
+    // Its number in docs/RULES.md, "Answer numbers".
     pub fn number(self) -> u32
         ensures { λ r. ⌜ r ≡ R.numberOfDivided self ⌝ }
     {
@@ -41,7 +41,7 @@ pub enum Roots {
 }
 
 impl Roots {
-    // Its number in the table of answers.
+    // Its number in docs/RULES.md, "Answer numbers".
     pub fn number(self) -> u32
         ensures { λ r. ⌜ r ≡ R.numberOfRoots self ⌝ }
     {

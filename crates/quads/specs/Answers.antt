@@ -51,7 +51,7 @@ abbrev pub evalPick : {A : Type 0} → ℕ → Float → List Float → A → A 
 evalPick need t src eight two none = cond (outsideUnit t) eight (shortPick need src two none)
 
 abbrev pub evalNumber : ℕ → Float → List Float → ℕ
-evalNumber need t src = evalPick need t src 8 2 0
+evalNumber need t src = evalPick need t src (numberOfPoint P.OutOfRange) (numberOfPoint P.BufferTooShort) 0
 
 abbrev pub evalAnswer : ℕ → Float → List Float → Point → PointAt
 evalAnswer need t src p = evalPick need t src P.OutOfRange P.BufferTooShort (P.At p)
@@ -64,7 +64,7 @@ abbrev pub chopPick : {A : Type 0} → ℕ → ℕ → Float → List Float → 
 chopPick need room t src dst eight two none = cond (outsideOpenUnit t) eight (shortPick need src two (shortPick room dst two none))
 
 abbrev pub chopNumber : ℕ → ℕ → Float → List Float → List Float → ℕ
-chopNumber need room t src dst = chopPick need room t src dst 8 2 0
+chopNumber need room t src dst = chopPick need room t src dst (numberOfChop C.OutOfRange) (numberOfChop C.BufferTooShort) (numberOfChop C.Done)
 
 abbrev pub chopAnswer : ℕ → ℕ → Float → List Float → List Float → Chopped
 chopAnswer need room t src dst = chopPick need room t src dst C.OutOfRange C.BufferTooShort C.Done

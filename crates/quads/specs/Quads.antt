@@ -12,7 +12,7 @@ use Rattle.quad_roots.specs.Roots.{dividedOf}
 use Rattle.quads.specs.declared.Quad.{Quad}
 use Rattle.quads.specs.declared.Curvature.{Curvature}
 use Rattle.quads.specs.declared.Curvature.the-variants.{At, Undefined, BufferTooShort}
-use Rattle.quads.specs.Answers.{shortPick}
+use Rattle.quads.specs.Answers.{numberOfCurvature, shortPick}
 use Rattle.quads.specs.Steps.{times2, squareAt, same, minus, interp}
 
 abbrev pub quadOf : List Float → Quad
@@ -49,8 +49,8 @@ quadExtrema a b c = dividedOf (a ⊖ b) (a ⊖ b ⊖ b ⊕ c)
 -- ---- maximum curvature
 -- n / d, or 0 or 1 where it lies at or past that end: what goes with such a value, and what with 5, where neither end
 -- applies and the quotient is NaN
-abbrev pub pinned : {A : Type 0} → (Float → A) → A → Float → Float → A
-pinned at five n d =
+abbrev pub clamped : {A : Type 0} → (Float → A) → A → Float → Float → A
+clamped at five n d =
     cond (le n zero32)
     (at zero32)
     (cond (le d n) (at one32) (cond (isNan (n ⊘ d)) five (at (n ⊘ d))))
@@ -62,14 +62,14 @@ quadCurvature at five q =
     let b = axes (λ p0 p1 p2. p0 ⊖ p1 ⊖ p1 ⊕ p2) q in
     let n = neg (a .x ⊗ b .x ⊕ a .y ⊗ b .y) in
     let d = b .x ⊗ b .x ⊕ b .y ⊗ b .y in
-    cond (lt d zero32) (pinned at five (neg n) (neg d)) (pinned at five n d)
+    cond (lt d zero32) (clamped at five (neg n) (neg d)) (clamped at five n d)
 
 -- 2 comes before 5
 abbrev pub curvatureAnswer : List Float → Curvature
 curvatureAnswer l = shortPick 6 l BufferTooShort (quadCurvature At Undefined (quadOf l))
 
 abbrev pub curvatureNumber : List Float → ℕ
-curvatureNumber l = shortPick 6 l 2 (quadCurvature (λ t. 0) 5 (quadOf l))
+curvatureNumber l = shortPick 6 l (numberOfCurvature BufferTooShort) (quadCurvature (λ t. 0) (numberOfCurvature Undefined) (quadOf l))
 
 abbrev pub curvatureValues : List Float → List Float
 curvatureValues l = shortPick 6 l [] (quadCurvature (λ t. t ∷ []) [] (quadOf l))

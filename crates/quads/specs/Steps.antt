@@ -1,4 +1,5 @@
--- The steps that the formulas share, in binary32: each operation rounds once, in the order that the Rust writes it. Definitions only.
+-- The steps that the formulas share, in binary32: each operation rounds once, in the order that the Rust writes it (docs/RULES.md, "Quads
+-- and cubics"). Definitions only.
 use mathlib.Core.Bool.{Bool, not, _&&_}
 use lib.Ieee.{Float, le, eq}
 use Rattle.float_laws.specs.Formula.{_⊕_, _⊖_, _⊗_, zero32, one32}

@@ -7,7 +7,7 @@ use super::Chopped;
 pub fn store(dst: &mut [f32], new: &[f32]) -> Chopped
     ensures { λ r. ⌜ r ≡ storePick (now (dst .entry)) (now (new .entry)) Chopped.BufferTooShort Chopped.Done ⌝ }
     ensures buffer { λ _. ⌜ now (dst .exit) ≡ storeBuffer (now (dst .entry)) (now (new .entry)) ⌝ }
-    ensures number { λ r. ⌜ numberOfChop r ≡ storePick (now (dst .entry)) (now (new .entry)) 2 0 ⌝ }
+    ensures number { λ r. ⌜ numberOfChop r ≡ storePick (now (dst .entry)) (now (new .entry)) (numberOfChop Chopped.BufferTooShort) 0 ⌝ }
 {
     if dst.len() < new.len() {
         return Chopped::BufferTooShort;

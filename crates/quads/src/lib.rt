@@ -28,7 +28,7 @@ pub enum PointAt {
 }
 
 impl PointAt {
-    // Its number in the table of answers.
+    // Its number in docs/RULES.md, "Answer numbers".
     pub fn number(self) -> u32
         ensures { λ r. ⌜ r ≡ numberOfPoint self ⌝ }
     {
@@ -48,7 +48,7 @@ pub enum Chopped {
 }
 
 impl Chopped {
-    // Its number in the table of answers.
+    // Its number in docs/RULES.md, "Answer numbers".
     pub fn number(self) -> u32
         ensures { λ r. ⌜ r ≡ numberOfChop self ⌝ }
     {
@@ -68,7 +68,7 @@ pub enum Curvature {
 }
 
 impl Curvature {
-    // Its number in the table of answers.
+    // Its number in docs/RULES.md, "Answer numbers".
     pub fn number(self) -> u32
         ensures { λ r. ⌜ r ≡ numberOfCurvature self ⌝ }
     {
@@ -100,8 +100,8 @@ fn slope(p0: f32, p1: f32, p2: f32, t: f32) -> f32
 }
 
 // numer / denom, or 0 or 1 where it lies at or past that end.
-fn pinned(numer: f32, denom: f32) -> Curvature
-    ensures { λ r. ⌜ r ≡ Q.pinned Curvature.At Curvature.Undefined numer denom ⌝ }
+fn clamped(numer: f32, denom: f32) -> Curvature
+    ensures { λ r. ⌜ r ≡ Q.clamped Curvature.At Curvature.Undefined numer denom ⌝ }
 {
     if numer <= 0.0 {
         return Curvature::At(0.0);
@@ -173,7 +173,7 @@ impl Quad {
         let bx = self.p0.x - self.p1.x - self.p1.x + self.p2.x;
         let by = self.p0.y - self.p1.y - self.p1.y + self.p2.y;
         // The Rust flips both signs where the denominator is below 0, which a sum of squares never is.
-        pinned(-(ax * bx + ay * by), bx * bx + by * by)
+        clamped(-(ax * bx + ay * by), bx * bx + by * by)
     }
 }
 
@@ -250,7 +250,10 @@ pub fn find_quad_extrema(a: f32, b: f32, c: f32) -> Divided
     ensures number { λ r. ⌜ numberOfDivided r ≡ 0 ⌝ }
     ensures inside { λ r. ⌜ Rising (valuesOfDivided r) ⌝ }
 {
-    quad_roots::valid_unit_divide(a - b, a - b - b + c)
+    let Divided::One(t) = quad_roots::valid_unit_divide(a - b, a - b - b + c) else {
+        return Divided::None;
+    };
+    Divided::One(t)
 }
 
 // Where the curvature is greatest: 0, 1, or a quotient.

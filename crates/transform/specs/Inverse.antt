@@ -80,4 +80,8 @@ invertOf t = cond (isIdentity t) (Inverted t) (cond (isScaleTranslate t) (Invert
 
 -- refusal 6 or 7 where it applies, else 0: what is not skewed is never refused
 unfoldable pub refusalOf : Transform → ℕ
-refusalOf t = cond (hasSkew t) (cond (nearlySingular t) 6 (cond (isFinite (skewedInverse t (overDeterminant t))) 0 7)) 0
+refusalOf t =
+    cond (hasSkew t)
+    (cond (nearlySingular t) (numberOfInversion NearlySingular)
+    (cond (isFinite (skewedInverse t (overDeterminant t))) 0 (numberOfInversion NotFinite)))
+    0

@@ -1,4 +1,4 @@
--- What kind of transform it is. Definitions only.
+-- What kind of transform it is (docs/RULES.md, "Transforms"). Definitions only.
 use mathlib.Core.Bool.{Bool, true, false, not, _&&_, _||_, Bool·beq}
 use lib.Ieee.{Float, binary32, ofBits, ne, le}
 use lib.Ieee.Scale.{finite}

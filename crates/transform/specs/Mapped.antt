@@ -1,4 +1,4 @@
--- Where a transform maps a point, by its kind. Definitions only.
+-- Where a transform maps a point, by its kind (docs/RULES.md, "Transforms"). Definitions only.
 use mathlib.Core.Bool.{cond}
 use Rattle.float_laws.specs.Formula.{_⊕_, _⊗_}
 use Rattle.point.specs.declared.Point.{Point}

@@ -1,4 +1,4 @@
--- What `concat` answers: what b does, and then a. Definitions only.
+-- What `concat` answers: what b does, and then a (docs/RULES.md, "Transforms"). Definitions only.
 use mathlib.Core.Bool.{cond, not, _&&_}
 use lib.Ieee.{Float}
 use Rattle.float_laws.specs.Formula.{_⊕_, _⊗_, _⊞_, _⊠_, zero32}

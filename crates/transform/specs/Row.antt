@@ -1,4 +1,4 @@
--- A transform as its six numbers, in the order of `from_row`. Definitions only.
+-- A transform as its six numbers, in the order of `from_row` (docs/RULES.md, "Transforms"). Definitions only.
 use mathlib.Core.List.{List, [], _∷_}
 use lib.Ieee.{Float}
 use Rattle.float_laws.specs.Formula.{zero32, one32}

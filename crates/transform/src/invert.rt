@@ -16,7 +16,7 @@ pub enum Inversion {
 }
 
 impl Inversion {
-    // Its number in the table of answers.
+    // Its number in docs/RULES.md, "Answer numbers".
     pub fn number(self) -> u32
         ensures { λ r. ⌜ r ≡ numberOfInversion self ⌝ }
     {

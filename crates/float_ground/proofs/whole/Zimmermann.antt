@@ -1,4 +1,5 @@
--- Zimmermann's step for a square root, on natural numbers: from s * s + rest to the root of (s * s + rest) * B ^ 2, with B = 2 ^ 26, by one division by 2 s.
+-- Zimmermann's step for a square root, on natural numbers: from s * s + rest to the root of (s * s + rest) * B ^ 2, with B = 2 ^ 26, by
+-- one division by 2 s.
 -- Each number is as the machine has it, with its own equation. Assumes nothing.
 use mathlib.Core.Path.{_≡_, refl, sym, ap, _∙_}
 use Prim.Native.Nat.{ℕ, zero, suc, _+_, _-_, _*_, _/_, _%_, _^_, _≤_, _<_}

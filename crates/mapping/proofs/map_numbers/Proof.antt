@@ -1,4 +1,5 @@
--- `mapping::map_numbers` meets its contract. The loop's invariant: with the numbers from i on mapped too, the buffer is what it has to be. Assumes nothing.
+-- `mapping::map_numbers` meets its contract. The loop's invariant: with the numbers from i on mapped too, the buffer is what it has to
+-- be. Assumes nothing.
 use borrow.Author.Needs.{needs}
 use borrow.Author.Tests.{eq-eqb, ne-eqb}
 use mathlib.Core.Path.{_≡_, refl, sym, _∙_}

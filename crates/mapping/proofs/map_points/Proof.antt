@@ -1,4 +1,5 @@
--- `mapping::map_points` meets its contract, by the law of `InPlace.antt`: what is shown here is what `map_point` gives, and that what is had at exit meets the contract.
+-- `mapping::map_points` meets its contract, by the law of `InPlace.antt`: what is shown here is what `map_point` gives, and that what is
+-- had at exit meets the contract.
 -- Assumes nothing.
 use mathlib.Core.Path.{_≡_, refl, sym, ap, subst}
 use Prim.Native.Nat.{ℕ}

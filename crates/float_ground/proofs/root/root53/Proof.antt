@@ -1,4 +1,5 @@
--- `float_ground::root::root53` meets its contract: the upper half of the radicand has 53 or 54 digits, and its root, extended, has 53. Assumes nothing.
+-- `float_ground::root::root53` meets its contract: the upper half of the radicand has 53 or 54 digits, and its root, extended, has 53.
+-- Assumes nothing.
 use borrow.Author.Needs.{needs}
 use mathlib.Core.Path.{_≡_, sym, ap, _∙_, subst}
 use mathlib.Core.Bool.{false}

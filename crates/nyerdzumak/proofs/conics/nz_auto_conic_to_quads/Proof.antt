@@ -2,7 +2,7 @@
 use mathlib.Core.Path.{refl, sym, ap, _∙_}
 use borrow.Author.Needs.{needs}
 use Rattle.conic.specs.declared.Refusal.{Refusal}
-use Rattle.conic.specs.Refusal.{numberOf}
+use Rattle.conic.specs.Refusal.{numberOfRefusal}
 use Rattle.conic.proofs.Sources.{was-made, was-refused}
 use Rattle.nyerdzumak.proofs.conics.nz_auto_conic_to_quads.Statement.{statement}
 use Rattle.nyerdzumak.proofs.conics.nz_auto_conic_to_quads.Tie as tie
@@ -24,7 +24,7 @@ returns-2 c =
     let found = c .before .before .why .given in
     let told = was-refused (a .src .now) (a .weight) (found .0 .0)
     (sym (c .before .before .before .before .from-points .ensures .answer) ∙ found .1) in
-    rw (told .0) (c .number .ensures ∙ ap (λ (r : Refusal). numberOf r) (told .1), (refl, refl))
+    rw (told .0) (c .number .ensures ∙ ap (λ (r : Refusal). numberOfRefusal r) (told .1), (refl, refl))
 
 pub nz-auto-conic-to-quads-spec : {M : Type 1} → statement M
 nz-auto-conic-to-quads-spec =

@@ -7,4 +7,4 @@ use Rattle.quads.proofs.Quad.max_curvature.Tie as tie
 
 pub max-curvature-spec : {M : Type 1} → statement M
 unfolding quadCurvature
-max-curvature-spec = tie.close (tie.spec nothing (λ c. rw sum-of-squares (c .pinned .ensures)))
+max-curvature-spec = tie.close (tie.spec nothing (λ c. rw sum-of-squares (c .clamped .ensures)))

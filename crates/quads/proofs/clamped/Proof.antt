@@ -1,10 +1,10 @@
--- `quads::pinned` meets its contract. Assumes nothing.
+-- `quads::clamped` meets its contract. Assumes nothing.
 use Rattle.float_laws.proofs.Squares.{nan-test}
-use Rattle.quads.proofs.pinned.Statement.{statement}
-use Rattle.quads.proofs.pinned.Tie as tie
+use Rattle.quads.proofs.clamped.Statement.{statement}
+use Rattle.quads.proofs.clamped.Tie as tie
 
-pub pinned-spec : {M : Type 1} → statement M
-pinned-spec =
+pub clamped-spec : {M : Type 1} → statement M
+clamped-spec =
     tie.close (tie.spec
     (λ c. rw (c .if1 .taken))
     (λ c. rw (c .before .if1 .left, c .if2 .taken))
