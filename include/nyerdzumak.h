@@ -17,7 +17,8 @@
  * FLOATS. What is proved is proved of IEEE 754 arithmetic: round to nearest, subnormals kept. Do not set flush-to-zero or
  * another rounding mode; linking with -ffast-math sets flush-to-zero at start-up, and then cuts of numbers near 1e-38 turn
  * back.
- * A NaN that is computed may have any NaN's bits.
+ *   A zero has the sign that IEEE 754 gives it: so has the Rust's, and the answers are the same bit for bit. Tests, and the
+ * order of a cut, take -0 and 0 as equal. Only a NaN that is computed may have any NaN's bits.
  *
  * docs/RULES.md has the rules in full.
  */
@@ -90,7 +91,7 @@ uint32_t nz_auto_conic_to_quads(const float *NZ_RESTRICT src, nz_len src_len, fl
  * Answers NZ_OK or NZ_BUFFER_TOO_SHORT. */
 uint32_t nz_conic_chop(const float *NZ_RESTRICT src, nz_len src_len, float weight, float halves[14]);
 
-/* The between tests: (a - b) * (c - b) <= 0 as it is computed, and a <= b <= c or a >= b >= c. */
+/* The between tests: (a - b) * (c - b) <= 0 as it is computed, and a <= b <= c or a >= b >= c, -0 and 0 being equal. */
 bool nz_between_product(float a, float b, float c);
 bool nz_between_exact(float a, float b, float c);
 
@@ -181,12 +182,13 @@ bool nz_is_finite_f32(float x);
 bool nz_is_finite_f64(double x);
 bool nz_point_is_finite(float x, float y);
 
-/* The absolute value; the same number as a double; the nearest float, ties to even. */
+/* The absolute value, of -0 0; the same number as a double; the nearest float, ties to even, with the sign of x: a negative
+ * too small for a float gives -0. */
 float nz_abs_f32(float x);
 double nz_widen(float x);
 float nz_narrow(double x);
 
-/* The nearest number to the square root; of a zero that zero, below zero NaN. */
+/* The nearest number to the square root; of -0 it is -0, below zero NaN. */
 float nz_sqrt_f32(float x);
 double nz_sqrt_f64(double x);
 

@@ -1,4 +1,4 @@
-// The float ground beside the processor: every call on random patterns, bit for bit but for a NaN's bits.
+// The float ground beside the processor: every call on random patterns, bit for bit, a zero's sign too, but for a NaN's bits.
 // Arguments: how many patterns for each call, and the seed. The last line is 'N inputs, M differences'.
 #include <math.h>
 #include <stdio.h>
@@ -21,7 +21,8 @@ static double f64(uint64_t b) { double x; memcpy(&x, &b, 8); return x; }
 static uint32_t bits32(float x) { uint32_t b; memcpy(&b, &x, 4); return b; }
 static uint64_t bits64(double x) { uint64_t b; memcpy(&b, &x, 8); return b; }
 
-// A pattern of an f32: any bits, or near the ends of a binade, below the normal range, near the largest.
+// A pattern of an f32: any bits, or near the ends of a binade, below the normal range, near the largest, or a zero of either
+// sign and what is next to it.
 static uint32_t pattern32(void) {
     uint64_t r = next();
     uint32_t b = (uint32_t)(r >> 32), sign = b & 0x80000000u, few = (uint32_t)r % 9;
@@ -30,6 +31,7 @@ static uint32_t pattern32(void) {
     case 1: return sign | ((b & 0x7f800000) + few - 4) % 0x80000000u;
     case 2: return sign | (0x7f7fffff + few - 4);
     case 3: return sign | (0x00800000 + few - 4);
+    case 4: return sign | few / 3;
     default: return b;
     }
 }
@@ -55,6 +57,9 @@ static uint64_t pattern64(void) {
     case 10: return sign | (0x47efffffe0000000 + (b >> 12) % 0x40000000);
     // about the smallest f32, and half of it
     case 11: return sign | (0x3680000000000000 + (b >> 12) % 0x40000000000000);
+    // a zero of either sign and what is next to it, and what is narrowed to a zero
+    case 12: return sign | few / 3;
+    case 13: return sign | ((b >> 8) % 872 << 52 | (b & 0xfffffffffffff));
     default: return b;
     }
 }

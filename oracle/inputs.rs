@@ -1,8 +1,10 @@
-// Inputs from a seed: numbers of one kind for a whole record, with a special value thrown in now and then.
+// Inputs from a seed: numbers of one kind for a whole record, with a special value thrown in now and then, and in some
+// records zeros of either sign for every other number.
 
 pub struct Inputs {
     state: u64,
     kind: u64,
+    zeros: bool,
     base: u32,
 }
 
@@ -18,7 +20,7 @@ fn plain(x: f32) -> f32 {
 
 impl Inputs {
     pub fn new(seed: u64) -> Inputs {
-        Inputs { state: seed.wrapping_mul(0x9e37_79b9_7f4a_7c15) | 1, kind: 0, base: 0 }
+        Inputs { state: seed.wrapping_mul(0x9e37_79b9_7f4a_7c15) | 1, kind: 0, zeros: false, base: 0 }
     }
 
     pub fn next(&mut self) -> u64 {
@@ -39,11 +41,17 @@ impl Inputs {
     // Begins a record: its numbers will be of one kind.
     pub fn begin(&mut self) {
         self.kind = self.below(10);
+        self.zeros = self.chance(4);
         self.base = ((self.below(2) << 31) | (90 + self.below(80)) << 23 | self.below(1 << 23)) as u32;
     }
 
     pub fn special(&mut self) -> f32 {
         f32::from_bits(SPECIAL[self.below(24) as usize])
+    }
+
+    // A zero of either sign.
+    pub fn zero(&mut self) -> f32 {
+        if self.chance(2) { 0.0 } else { -0.0 }
     }
 
     pub fn any(&mut self) -> f32 {
@@ -52,6 +60,9 @@ impl Inputs {
 
     // A number of the record's kind.
     pub fn value(&mut self) -> f32 {
+        if self.zeros && self.chance(2) {
+            return self.zero();
+        }
         if self.chance(24) {
             return self.special();
         }
@@ -96,7 +107,7 @@ impl Inputs {
             12 => f32::from_bits(0xbf80_0000 - 4 + self.below(9) as u32),
             13 => -1.0 + (self.below(2001) as f32 - 1000.0) / 1_000_000.0,
             0 => f32::from_bits(0x7fc0_0000),
-            1 => 0.0,
+            1 => self.zero(),
             2 => -1.0,
             3 => 1.0,
             4 => self.any(),
@@ -139,11 +150,11 @@ impl Inputs {
             *v = self.value();
         }
         match self.below(10) {
-            0 => m = [1.0, 0.0, 0.0, 1.0, 0.0, 0.0],
-            1 => m = [1.0, -0.0, 0.0, 1.0, m[4], m[5]],
-            2 => m = [m[0], 0.0, 0.0, m[3], m[4], m[5]],
-            3 => m = [m[0], 0.0, 0.0, m[3], 0.0, -0.0],
-            4 => m = [1.0, m[1], m[2], 1.0, 0.0, 0.0],
+            0 => m = [1.0, self.zero(), self.zero(), 1.0, self.zero(), self.zero()],
+            1 => m = [1.0, self.zero(), self.zero(), 1.0, m[4], m[5]],
+            2 => m = [m[0], self.zero(), self.zero(), m[3], m[4], m[5]],
+            3 => m = [m[0], self.zero(), self.zero(), m[3], self.zero(), self.zero()],
+            4 => m = [1.0, m[1], m[2], 1.0, self.zero(), self.zero()],
             // a determinant about zero: rows that are nearly multiples
             5 => {
                 let k = self.value();
@@ -158,7 +169,7 @@ impl Inputs {
                 let e = 2f32.powi(-18 - self.below(3) as i32 + 1);
                 m[0] = e * (1.0 + self.below(5) as f32 * f32::EPSILON);
                 m[3] = e * (1.0 - self.below(5) as f32 * f32::EPSILON);
-                m[1] = 0.0;
+                m[1] = self.zero();
                 m[2] = 1.0;
             }
             _ => {}
@@ -166,7 +177,8 @@ impl Inputs {
         m
     }
 
-    // A double: any bits, or where binary32 has its values and about its ends, half of these beside a tie.
+    // A double: any bits, or where binary32 has its values and about its ends, half of these beside a tie; or a zero of
+    // either sign and what is next to it, or so small that it is narrowed to a zero.
     pub fn double(&mut self) -> f64 {
         let r = self.next();
         let mut b = self.next();
@@ -175,6 +187,10 @@ impl Inputs {
             if r % 4 == 0 {
                 b = (b & !0x1fff_ffff) + 0x1000_0000 + (r >> 40) % 3 - 1;
             }
+        } else if r % 16 == 1 {
+            b = (b & (1 << 63)) | (r >> 8) % 3;
+        } else if r % 16 == 3 {
+            b = (b & (1 << 63)) | (r >> 8) % 872 << 52 | (b & 0xf_ffff_ffff_ffff);
         }
         f64::from_bits(b)
     }
@@ -199,7 +215,7 @@ impl Inputs {
             0 => self.special(),
             1 => self.any(),
             2 => 0.25,
-            3 => -0.0,
+            3 => self.zero(),
             _ => self.below(4000) as f32 / 1000.0,
         }
     }

@@ -1,5 +1,5 @@
 // Writes the list that the program `replay` reads: for each call of the table in calls.rs, inputs from a seed and what
-// the original gives on them. A record is 20 words of 32 bits, the lowest byte first: the place of the call in the
+// the original gives on them; and then the inputs of minus_zeros.rs. A record is 20 words of 32 bits, the lowest byte first: the place of the call in the
 // table, the twelve floats, the double, the two lengths and the level of its input, and the two sums over its output.
 // Before the records of a call stands one that names it: 2^32 - 1, the name, and where that ends in word 19.
 // Writes to standard error what the program must then write.
@@ -8,6 +8,7 @@
 
 mod calls;
 mod inputs;
+mod minus_zeros;
 mod of_conics;
 mod of_curves;
 mod of_transforms;
@@ -15,6 +16,7 @@ mod outputs;
 
 use calls::{Case, CALLS};
 use inputs::Inputs;
+use minus_zeros::THROUGH;
 use outputs::Output;
 use std::io::Write;
 
@@ -43,23 +45,43 @@ fn title(name: &str) -> [u8; 80] {
     bytes
 }
 
+// What the original gives.
+fn answer(call: usize, case: &Case) -> Output {
+    let mut out = Output::new();
+    (CALLS[call].theirs)(case, &mut out);
+    out
+}
+
+// Writes the records of some inputs under a name, and the line that the program must then write.
+fn write(list: &mut impl Write, name: &str, cases: &[(usize, Case)]) {
+    list.write_all(&title(name)).unwrap();
+    for (call, case) in cases {
+        for w in record(*call, case, &answer(*call, case)) {
+            list.write_all(&w.to_le_bytes()).unwrap();
+        }
+    }
+    eprintln!("{} {} of {}", name, cases.len(), cases.len());
+}
+
 fn main() {
     std::panic::set_hook(Box::new(|_| {}));
     let seed = std::env::args().nth(1).map_or(1, |s| s.parse().expect("a seed"));
     let mut inputs = Inputs::new(seed);
     let mut list = std::io::BufWriter::new(std::io::stdout());
-    let mut out = Output::new();
     for (k, call) in CALLS.iter().enumerate() {
-        list.write_all(&title(call.name)).unwrap();
-        for _ in 0..call.listed {
+        let made = (0..call.listed).map(|_| {
             let mut case = Case { f: [0.0; 12], x: 0.0, len: [0; 2], level: 0 };
             (call.make)(&mut inputs, &mut case);
-            out.clear();
-            (call.theirs)(&case, &mut out);
-            for w in record(k, &case, &out) {
-                list.write_all(&w.to_le_bytes()).unwrap();
-            }
+            (k, case)
+        });
+        write(&mut list, call.name, &made.collect::<Vec<_>>());
+    }
+    for through in THROUGH {
+        let named = |name: &str| CALLS.iter().position(|c| c.name == name).expect("a call of the table");
+        let cases: Vec<_> = through.cases.iter().map(|(name, case)| (named(name), case.clone())).collect();
+        for (call, case) in &cases {
+            assert!(answer(*call, case).minus_zero(), "{}: no −0 in {}, {:?}", through.title, CALLS[*call].name, case.f);
         }
-        eprintln!("{} {} of {}", call.name, call.listed, call.listed);
+        write(&mut list, through.title, &cases);
     }
 }

@@ -14,7 +14,7 @@ pub fn conic(i: &mut Inputs, c: &mut Case) {
     c.len = [i.length(6).min(11), i.length(room(c.level.min(5)))];
 }
 
-pub fn room(level: u32) -> usize {
+pub const fn room(level: u32) -> usize {
     2 * (2 * (1 << level) + 1)
 }
 

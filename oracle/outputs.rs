@@ -4,7 +4,7 @@
 enum Kind {
     Bits,     // no float: the same bits
     Copied,   // a float that was copied: the same bits
-    Computed, // any NaN is any NaN
+    Computed, // the same bits, a zero's sign too, but that any NaN is any NaN
 }
 
 pub struct Output {
@@ -20,12 +20,6 @@ pub fn stood(k: usize) -> f32 {
 
 pub fn buffer<const N: usize>() -> [f32; N] {
     std::array::from_fn(stood)
-}
-
-pub enum Verdict {
-    Same,
-    ZeroSign,
-    Different,
 }
 
 impl Output {
@@ -84,25 +78,17 @@ impl Output {
         })
     }
 
-    // `self` is the library's; the judge says which words are computed.
-    pub fn against(&self, judge: &Output) -> Verdict {
-        let mut verdict = Verdict::Same;
-        if self.len != judge.len {
-            return Verdict::Different;
-        }
-        for k in 0..self.len {
+    // Whether the two are the same; `self` is the library's, and the judge says which words are computed.
+    pub fn same(&self, judge: &Output) -> bool {
+        self.len == judge.len && (0..self.len).all(|k| {
             let (a, b) = (self.words[k], judge.words[k]);
-            if a == b {
-                continue;
-            }
-            let (x, y) = (f32::from_bits(a), f32::from_bits(b));
-            match judge.kinds[k] {
-                Kind::Computed if x.is_nan() && y.is_nan() => {}
-                Kind::Computed if x == 0.0 && y == 0.0 => verdict = Verdict::ZeroSign,
-                _ => return Verdict::Different,
-            }
-        }
-        verdict
+            a == b || judge.kinds[k] == Kind::Computed && f32::from_bits(a).is_nan() && f32::from_bits(b).is_nan()
+        })
+    }
+
+    // Whether a computed number is −0.
+    pub fn minus_zero(&self) -> bool {
+        (0..self.len).any(|k| self.kinds[k] == Kind::Computed && self.words[k] == 0x8000_0000)
     }
 
     // The words in which two outputs are not the same bits.

@@ -13,13 +13,14 @@ use Rattle.conic.specs.Chop.{lineOf, linesAt, halvesAt, chopAt, chopBy}
 use Rattle.conic.specs.Mend.{nearerOf, orderedOf, mendedOf}
 use Rattle.point.specs.Numbers.{flat}
 use Rattle.conic_cut.specs.Cut.{cutPoints, allFinite, pinned, written, cutAnswer}
-use Rattle.checked_list.specs.Figures.{Figure, root, narrowed, roots, between, cut, refused}
+use Rattle.checked_list.specs.Figures.{Figure, root, narrowed, absolute, roots, between, cut, refused}
 use Rattle.checked_list.specs.Figures.{bits, at, corner, Holds, AllHold, figures}
 
 -- what is left to compute of a figure: a root is nearest where it is the computed one
 abbrev Computed : Figure → Type 0
-Computed (root x r) = T (fits binary32 (ofBits binary32 x)) × (ofBits binary32 r ≡ rootOf binary32 (ofBits binary32 x))
+Computed (root f x r) = T (fits f (ofBits f x)) × (ofBits f r ≡ rootOf f (ofBits f x))
 Computed (narrowed x r) = Holds (narrowed x r)
+Computed (absolute x r) = Holds (absolute x r)
 Computed (roots a b c l) = Holds (roots a b c l)
 Computed (between u a b c answer) = Holds (between u a b c answer)
 Computed (cut u n quads l) = Holds (cut u n quads l)
@@ -30,8 +31,9 @@ AllComputed [] = Unit {0}
 AllComputed (g ∷ l) = Computed g × AllComputed l
 
 holds : (g : Figure) → Computed g → Holds g
-holds (root x r) h = both binary32 (ofBits binary32 x) (ofBits binary32 r) (h .0) (h .1) .1
+holds (root f x r) h = both f (ofBits f x) (ofBits f r) (h .0) (h .1) .1
 holds (narrowed x r) h = h
+holds (absolute x r) h = h
 holds (roots a b c l) h = h
 holds (between u a b c answer) h = h
 holds (cut u n quads l) h = h
@@ -51,7 +53,8 @@ unfolding
     chopBy chopAt halvesAt linesAt lineOf mendedOf orderedOf nearerOf absOf cutPoints allFinite pinned written flat cutAnswer
     ofBits toBits fits add sub mul div lt le
 all-computed =
-    (tt & refl) & (tt & refl) & (tt & refl) & refl & refl & refl & refl & refl & refl & refl & refl & refl & refl & refl
+    (tt & refl) & (tt & refl) & (tt & refl) & (tt & refl) & (tt & refl) & refl & refl & refl & refl & refl
+    & refl & refl & refl & refl & refl & refl & refl & refl & refl
     & (refl & refl) & (refl & refl) & (refl & refl) & (refl & refl) & refl & refl & tt
 
 pub all-hold : AllHold figures

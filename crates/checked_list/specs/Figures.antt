@@ -3,7 +3,8 @@ use Prim.Native.Nat.{ℕ}
 use mathlib.Core.Path.{_≡_}
 use mathlib.Core.Bool.{Bool, true, false}
 use mathlib.Core.List.{List, [], _∷_}
-use lib.Ieee.{Float, binary32, binary64, ofBits, toBits}
+use lib.Ieee.{Float, Format, binary32, binary64, ofBits, toBits}
+use Rattle.float_laws.specs.Absolute.{absOf}
 use Rattle.float_laws.specs.Formula.{one32}
 use Rattle.float_laws.specs.Narrow.{narrowOf}
 use Rattle.float_laws.specs.Root.{Root}
@@ -20,10 +21,12 @@ use Rattle.point.specs.Numbers.{flat}
 use Rattle.conic_cut.specs.Cut.{written, room, cutAnswer, numberOfCut}
 
 pub data Figure : Type 0 where
-  -- x and its root, in f32
-  root : ℕ → ℕ → Figure
+  -- x and its root, in a format
+  root : Format → ℕ → ℕ → Figure
   -- an f64 and what it is narrowed to
   narrowed : ℕ → ℕ → Figure
+  -- an f32 and its absolute value
+  absolute : ℕ → ℕ → Figure
   -- a, b and c, and the roots of a·t² + b·t + c strictly between 0 and 1
   roots : ℕ → ℕ → ℕ → List ℕ → Figure
   -- whether the rule's test finds the second number between the others
@@ -46,8 +49,9 @@ corner = conicFrom (at 0 0) (at 0x4080_0000 0) (at 0x4080_0000 0x4080_0000) one3
 
 -- a root by its meaning: no other value of the format is nearer
 abbrev pub Holds : Figure → Type 0
-Holds (root x r) = Root binary32 (ofBits binary32 x) (ofBits binary32 r)
+Holds (root f x r) = Root f (ofBits f x) (ofBits f r)
 Holds (narrowed x r) = toBits binary32 (narrowOf (ofBits binary64 x)) ≡ r
+Holds (absolute x r) = toBits binary32 (absOf (ofBits binary32 x)) ≡ r
 Holds (roots a b c l) = bits (valuesOfRoots (rootsOf (ofBits binary32 a) (ofBits binary32 b) (ofBits binary32 c))) ≡ l
 Holds (between u a b c answer) = test u (ofBits binary32 a) (ofBits binary32 b) (ofBits binary32 c) ≡ answer
 Holds (cut u n quads l) = (cutAnswer n (room n) false ≡ Quads quads) × (bits (flat (written (chopBy u) n corner)) ≡ l)
@@ -60,12 +64,20 @@ AllHold (g ∷ l) = Holds g × AllHold l
 abbrev pub figures : List Figure
 figures =
     -- of 4, of 2 and of 2^-149
-    root 0x4080_0000 0x4000_0000
-    ∷ root 0x4000_0000 0x3fb5_04f3
-    ∷ root 1 0x1a35_04f3
+    root binary32 0x4080_0000 0x4000_0000
+    ∷ root binary32 0x4000_0000 0x3fb5_04f3
+    ∷ root binary32 1 0x1a35_04f3
+    -- of −0, in both formats
+    ∷ root binary32 0x8000_0000 0x8000_0000
+    ∷ root binary64 0x8000_0000_0000_0000 0x8000_0000_0000_0000
     -- 16777217 and 16777219 to 16777216 and 16777220
     ∷ narrowed 0x4170_0000_1000_0000 0x4b80_0000
     ∷ narrowed 0x4170_0000_3000_0000 0x4b80_0002
+    -- −2^-200 and −2^-1074, the negative double nearest to zero, to −0
+    ∷ narrowed 0xb370_0000_0000_0000 0x8000_0000
+    ∷ narrowed 0x8000_0000_0000_0001 0x8000_0000
+    -- of −0, which is 0
+    ∷ absolute 0x8000_0000 0
     -- (8,-6,1): 0.25 and 0.5; (4,-4,1): 0.5; (0,4,-1): 0.25; (1,0,1) and (0,0,1): none
     ∷ roots 0x4100_0000 0xc0c0_0000 0x3f80_0000 (0x3e80_0000 ∷ 0x3f00_0000 ∷ [])
     ∷ roots 0x4080_0000 0xc080_0000 0x3f80_0000 (0x3f00_0000 ∷ [])

@@ -4,3 +4,4 @@ pub mod Sources
 pub mod Unique
 pub mod Ways
 mod Whole
+pub mod Zeros

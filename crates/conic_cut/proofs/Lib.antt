@@ -6,3 +6,4 @@ mod Lists
 pub mod Order
 mod Stores
 pub mod Unique
+pub mod Zeros

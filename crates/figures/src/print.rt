@@ -1,4 +1,5 @@
-// A line of the figures: a text, then numbers. A float is written as the eight hexadecimal digits of its pattern.
+// A line of the figures: a text, then numbers. A float is written as the hexadecimal digits of its pattern, 8 for an f32 and
+// 16 for an f64.
 use libc::STDOUT_FILENO;
 
 // Writes a text.
@@ -18,6 +19,20 @@ fn pattern(x: f32) -> u64 {
 pub fn number(x: f32) {
     text(b" ");
     io::print_hex(STDOUT_FILENO, pattern(x), 8);
+}
+
+// x's pattern; every NaN's is written as 7ff8000000000000.
+fn wide_pattern(x: f64) -> u64 {
+    if x != x {
+        return 0x7ff8_0000_0000_0000;
+    }
+    f64::to_bits(x)
+}
+
+// Writes a space and x's pattern.
+pub fn wide_number(x: f64) {
+    text(b" ");
+    io::print_hex(STDOUT_FILENO, wide_pattern(x), 16);
 }
 
 // Writes a space and n in decimal.

@@ -10,3 +10,4 @@ pub mod Sides
 pub mod Sign
 pub mod Squares
 pub mod Values
+pub mod Zeros
