@@ -17,8 +17,8 @@
  * FLOATS. What is proved is proved of IEEE 754 arithmetic: round to nearest, subnormals kept. Do not set flush-to-zero or
  * another rounding mode; linking with -ffast-math sets flush-to-zero at start-up, and then cuts of numbers near 1e-38 turn
  * back.
- *   A zero has the sign that IEEE 754 gives it: so has the Rust's, and the answers are the same bit for bit. Tests, and the
- * order of a cut, take -0 and 0 as equal. Only a NaN that is computed may have any NaN's bits.
+ *   Zeros have the sign that IEEE 754 gives them, as those of tiny-skia-path have. Tests, and the order of a cut, take -0 and
+ * 0 as equal. Only the bits of a NaN that is computed are left open.
  *
  * docs/RULES.md has the rules in full.
  */

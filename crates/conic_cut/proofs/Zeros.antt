@@ -1,6 +1,6 @@
 -- Order speaks of numbers and not of bits: where zeros change their sign, points run one way as before, and a conic meets the premise
 -- as before. Assumes nothing.
-use mathlib.Core.Path.{_≡_}
+use mathlib.Core.Path.{_≡_, sym}
 use mathlib.Core.Bool.{Bool}
 use mathlib.Core.List.{List, [], _∷_}
 use mathlib.Core.Logic.{inl, inr, ⊎-elim}
@@ -26,6 +26,14 @@ steps-alike R alike k (p ∷ p₁ ∷ l) (q ∷ []) e h = absurd (e .1)
 steps-alike R alike k (p ∷ p₁ ∷ l) (q ∷ q₁ ∷ m) e h =
     (rw (← alike (along k p) (along k p₁) (along k q) (along k q₁) (e .0) (e .1 .0)) (h .0), steps-alike R alike k (p₁ ∷ l) (q₁ ∷ m) (e .1) (h .1))
 
+pub same-back : (k : Axis) (ps qs : List Point) → SameNumbers k ps qs → SameNumbers k qs ps
+unfolding SameNumbers
+same-back k [] [] e = tt
+same-back k [] (q ∷ m) e = absurd e
+same-back k (p ∷ l) [] e = absurd e
+same-back k (p ∷ l) (q ∷ m) e = (sym (e .0), same-back k l m (e .1))
+
+-- and back, by `same-back`
 pub one-way-alike : (k : Axis) (ps qs : List Point) → SameNumbers k ps qs → OneWay k ps → OneWay k qs
 one-way-alike k ps qs e h =
     ⊎-elim
