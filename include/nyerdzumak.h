@@ -17,8 +17,8 @@
  * FLOATS. What is proved is proved of IEEE 754 arithmetic: round to nearest, subnormals kept. Do not set flush-to-zero or
  * another rounding mode; linking with -ffast-math sets flush-to-zero at start-up, and then cuts of numbers near 1e-38 turn
  * back.
- *   Zeros have the sign that IEEE 754 gives them, as those of tiny-skia-path have. Tests, and the order of a cut, take -0 and
- * 0 as equal. Only the bits of a NaN that is computed are left open.
+ *   A zero has the sign that IEEE 754 gives it, as in tiny-skia-path. Tests, and the order of a cut, take -0 and 0 as equal.
+ * Only the bits of a NaN that is computed are left open.
  *
  * docs/RULES.md has the rules in full.
  */
@@ -83,7 +83,7 @@ uint32_t nz_conic_chop_into_quads_pow2(const float *NZ_RESTRICT src, nz_len src_
  * Answers NZ_OK, NZ_BAD_TOLERANCE, NZ_BUFFER_TOO_SHORT or NZ_POINT_NOT_FINITE. */
 uint32_t nz_conic_compute_quad_pow2(const float *NZ_RESTRICT src, nz_len src_len, float weight, float tolerance, uint32_t *level);
 
-/* The cut of nz_conic_chop_into_quads_pow2 at the level for a tolerance of 0.25: 64 places for points, zero where none is
+/* The cut of nz_conic_chop_into_quads_pow2 at the level for a tolerance of 0.25: 64 places for points, 0 where none is
  * written, and the number of quads. Answers NZ_OK, NZ_BUFFER_TOO_SHORT or NZ_POINT_NOT_FINITE. */
 uint32_t nz_auto_conic_to_quads(const float *NZ_RESTRICT src, nz_len src_len, float weight, float out[128], nz_len *quads);
 
@@ -182,8 +182,8 @@ bool nz_is_finite_f32(float x);
 bool nz_is_finite_f64(double x);
 bool nz_point_is_finite(float x, float y);
 
-/* The absolute value, of -0 0; the same number as a double; the nearest float, ties to even, with the sign of x: a negative
- * too small for a float gives -0. */
+/* The absolute value, 0 for -0; the same number as a double; the nearest float, ties to even, its sign kept: of a negative
+ * too small for a float it is -0. */
 float nz_abs_f32(float x);
 double nz_widen(float x);
 float nz_narrow(double x);

@@ -1,5 +1,5 @@
 // Inputs from a seed: numbers of one kind for a whole record, with a special value thrown in now and then, and in some
-// records zeros of either sign for every other number.
+// records zeros of either sign for about half of the numbers.
 
 pub struct Inputs {
     state: u64,
@@ -102,7 +102,8 @@ impl Inputs {
     }
 
     pub fn weight(&mut self) -> f32 {
-        match self.below(14) {
+        match self.below(16) {
+            14 | 15 => self.zero(),
             // about -1, where the formulas divide by zero
             12 => f32::from_bits(0xbf80_0000 - 4 + self.below(9) as u32),
             13 => -1.0 + (self.below(2001) as f32 - 1000.0) / 1_000_000.0,
@@ -187,8 +188,8 @@ impl Inputs {
             if r % 4 == 0 {
                 b = (b & !0x1fff_ffff) + 0x1000_0000 + (r >> 40) % 3 - 1;
             }
-        } else if r % 16 == 1 {
-            b = (b & (1 << 63)) | (r >> 8) % 3;
+        } else if r % 8 == 1 {
+            b = (b & (1 << 63)) | ((r >> 8) % 4).saturating_sub(2);
         } else if r % 16 == 3 {
             b = (b & (1 << 63)) | (r >> 8) % 872 << 52 | (b & 0xf_ffff_ffff_ffff);
         }

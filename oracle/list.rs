@@ -1,7 +1,8 @@
 // Writes the list that the program `replay` reads: for each call of the table in calls.rs, inputs from a seed and what
-// the original gives on them; and then the inputs of minus_zeros.rs. A record is 20 words of 32 bits, the lowest byte first: the place of the call in the
-// table, the twelve floats, the double, the two lengths and the level of its input, and the two sums over its output.
-// Before the records of a call stands one that names it: 2^32 - 1, the name, and where that ends in word 19.
+// the original gives on them; and then the same of the inputs of minus_zeros.rs. A record is 20 words of 32 bits, the
+// lowest byte first: the place of the call in the table, the twelve floats, the double, the two lengths and the level of
+// its input, and the two sums over its output. Before the records of a call, or of a group of minus_zeros.rs, stands one
+// that names them: 2^32 - 1, the name, and where that ends in word 19.
 // Writes to standard error what the program must then write.
 // Some of the modules serve the comparison alone.
 #![allow(dead_code)]
@@ -16,7 +17,7 @@ mod outputs;
 
 use calls::{Case, CALLS};
 use inputs::Inputs;
-use minus_zeros::THROUGH;
+use minus_zeros::{Through, THROUGH};
 use outputs::Output;
 use std::io::Write;
 
@@ -63,7 +64,18 @@ fn write(list: &mut impl Write, name: &str, cases: &[(usize, Case)]) {
     eprintln!("{} {} of {}", name, cases.len(), cases.len());
 }
 
+// The inputs of minus_zeros.rs, with the calls' places in the table. Each has to show what it is for.
+fn by_hand(through: &Through) -> Vec<(usize, Case)> {
+    let named = |name: &str| CALLS.iter().position(|c| c.name == name).expect("a call of the table");
+    let cases: Vec<_> = through.cases.iter().map(|(name, case)| (named(name), case.clone())).collect();
+    for (call, case) in &cases {
+        assert!(answer(*call, case).minus_zero(), "{}: no −0 from {}, {:?}", through.title, CALLS[*call].name, case.f);
+    }
+    cases
+}
+
 fn main() {
+    let groups: Vec<_> = THROUGH.iter().map(|t| (t.title, by_hand(t))).collect();
     std::panic::set_hook(Box::new(|_| {}));
     let seed = std::env::args().nth(1).map_or(1, |s| s.parse().expect("a seed"));
     let mut inputs = Inputs::new(seed);
@@ -76,12 +88,7 @@ fn main() {
         });
         write(&mut list, call.name, &made.collect::<Vec<_>>());
     }
-    for through in THROUGH {
-        let named = |name: &str| CALLS.iter().position(|c| c.name == name).expect("a call of the table");
-        let cases: Vec<_> = through.cases.iter().map(|(name, case)| (named(name), case.clone())).collect();
-        for (call, case) in &cases {
-            assert!(answer(*call, case).minus_zero(), "{}: no −0 in {}, {:?}", through.title, CALLS[*call].name, case.f);
-        }
-        write(&mut list, through.title, &cases);
+    for (title, cases) in groups {
+        write(&mut list, title, &cases);
     }
 }

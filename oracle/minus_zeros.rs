@@ -51,7 +51,6 @@ pub const THROUGH: &[Through] = &[
         ("transform: map_numbers", matrix([2.0, 1.0, 1.0, 3.0, -0.0, -0.0])),
     ] },
     Through { title: "minus zero through an inverse", cases: &[
-        ("transform: invert", matrix([1.0, -0.0, -0.0, 1.0, 0.0, 5.0])),
         ("transform: invert", matrix([-2.0, 0.0, 0.0, 4.0, -0.0, 8.0])),
         ("transform: invert", matrix([2.0, 1.0, -0.0, -4.0, -0.0, 3.0])),
     ] },

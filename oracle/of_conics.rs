@@ -108,8 +108,9 @@ pub fn automatic(c: &Case, out: &mut Output) {
     } else if let Some(a) = AutoConicToQuads::compute(p[0], p[1], p[2], c.f[6]) {
         out.number(0);
         out.number(a.len as u32);
-        for p in &a.points {
-            out.computed(&numbers(*p));
+        let last = 2 * a.len as usize;
+        for (k, p) in a.points.iter().enumerate() {
+            if k == 0 || k >= last { out.copied(&numbers(*p)) } else { out.computed(&numbers(*p)) }
         }
         return;
     } else {

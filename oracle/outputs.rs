@@ -4,7 +4,7 @@
 enum Kind {
     Bits,     // no float: the same bits
     Copied,   // a float that was copied: the same bits
-    Computed, // the same bits, a zero's sign too, but that any NaN is any NaN
+    Computed, // the same bits, but that any NaN equals any NaN
 }
 
 pub struct Output {
@@ -86,7 +86,7 @@ impl Output {
         })
     }
 
-    // Whether a computed number is −0.
+    // Whether an f32 that was computed is −0.
     pub fn minus_zero(&self) -> bool {
         (0..self.len).any(|k| self.kinds[k] == Kind::Computed && self.words[k] == 0x8000_0000)
     }

@@ -76,7 +76,7 @@ figures =
     -- −2^-200 and −2^-1074, the negative double nearest to zero, to −0
     ∷ narrowed 0xb370_0000_0000_0000 0x8000_0000
     ∷ narrowed 0x8000_0000_0000_0001 0x8000_0000
-    -- of −0, which is 0
+    -- that of −0 is 0
     ∷ absolute 0x8000_0000 0
     -- (8,-6,1): 0.25 and 0.5; (4,-4,1): 0.5; (0,4,-1): 0.25; (1,0,1) and (0,0,1): none
     ∷ roots 0x4100_0000 0xc0c0_0000 0x3f80_0000 (0x3e80_0000 ∷ 0x3f00_0000 ∷ [])

@@ -1,9 +1,8 @@
 -- The exact test speaks of numbers: it answers alike for both zeros, in each of its three places. Assumes nothing.
 use mathlib.Core.Path.{_≡_, refl}
-use mathlib.Core.Bool.{_&&_, _||_}
-use lib.Ieee.{Float, le}
-use Rattle.float_laws.specs.Formula.{zero32}
-use Rattle.float_laws.specs.Zero.{minusZero32, SameNumber}
+use lib.Ieee.{Float}
+use Rattle.float_laws.specs.Formula.{zero32, minusZero32}
+use Rattle.float_laws.specs.Zero.{SameNumber}
 use Rattle.float_laws.proofs.Zeros.{both-zeros, le-alike}
 use Rattle.conic.specs.Between.{exactTest}
 

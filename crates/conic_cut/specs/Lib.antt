@@ -3,3 +3,4 @@ pub mod Auto
 pub mod Cut
 pub mod Ladder
 pub mod Order
+pub mod Zeros

@@ -8,7 +8,6 @@ use lib.Dec.{T}
 use lib.ListN.{length, drop}
 use lib.Ieee.{Float, le}
 use lib.Ieee.Scale.{finite}
-use Rattle.float_laws.specs.Zero.{SameNumber}
 use Rattle.point.specs.declared.Point.{Point}
 use Rattle.conic.specs.declared.Conic.{Conic}
 use Rattle.conic.specs.declared.Rule.{Rule}
@@ -73,10 +72,3 @@ pub record OrderedCut (k : Axis) (n : ℕ) (c : Conic) (l l₁ : List Float) : T
 -- docs/RULES.md, "Order": by the exact rule, of the ys
 abbrev pub OrderKept : Rule → ℕ → Conic → List Float → List Float → Type 0
 OrderKept u n c l l₁ = u ≡ Exact → n ≤ ceiling → room n ≤ length l → Premise Y c → OrderedCut Y n c l l₁
-
--- point by point the same number along k: a zero may have another sign. No statement of order sees that (proofs/Zeros)
-unfoldable pub SameNumbers : Axis → List Point → List Point → Type 0
-SameNumbers k [] [] = Unit {0}
-SameNumbers k [] (q ∷ m) = ⊥
-SameNumbers k (p ∷ l) [] = ⊥
-SameNumbers k (p ∷ l) (q ∷ m) = SameNumber (along k p) (along k q) × SameNumbers k l m

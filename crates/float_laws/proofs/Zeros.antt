@@ -1,15 +1,15 @@
 -- No comparison sees a zero's sign: floats that are the same but for that compare alike with everything. Assumes nothing.
 use mathlib.Core.Path.{_≡_, refl, sym, ap, _∙_}
 use mathlib.Core.Bool.{Bool, true, false}
-use Prim.Native.Nat.{ℕ, zero, suc, _+_, _*_, compare, Ordering, Ordering·lt, Ordering·eq, Ordering·gt}
+use Prim.Native.Nat.{ℕ, zero, suc, _*_, compare, Ordering, Ordering·lt, Ordering·eq, Ordering·gt}
 use native.Mathlib.Nat.{zero-mul, zero-add, add-zero, lt-irrefl}
 use native.Mathlib.Omega.{arith}
-use lib.Ieee.{Float, nan, inf, fin, up, down, le, ofBits}
+use lib.Ieee.{Float, nan, inf, fin, up, down, lt, eq, le, ofBits}
 use lib.Ieee.Scale.{finite}
-use Rattle.float_laws.specs.Formula.{zero32}
-use Rattle.float_laws.specs.Zero.{minusZero32, unsignedZero, SameNumber}
+use Rattle.float_laws.specs.Formula.{zero32, minusZero32}
+use Rattle.float_laws.specs.Zero.{unsignedZero, SameNumber}
 use Rattle.float_laws.proofs.Rounding.{Cmp, cmp}
-use Rattle.float_laws.proofs.Sides.{sideOf, signed, ranked, versus, notMore, le-is}
+use Rattle.float_laws.proofs.Sides.{sideOf, signed, ranked, versus, isLess, isSame, notMore, lt-is, eq-is, le-is}
 
 pub both-zeros : SameNumber minusZero32 zero32
 unfolding ofBits unsignedZero
@@ -67,6 +67,12 @@ unsigned x y = unsigned-first x (unsignedZero y) ∙ unsigned-last x y
 
 versus-alike : (x y x₁ y₁ : Float) → SameNumber x x₁ → SameNumber y y₁ → versus x y ≡ versus x₁ y₁
 versus-alike x y x₁ y₁ p q = sym (unsigned x y) ∙ rw (p, q) (unsigned x₁ y₁)
+
+pub lt-alike : (x y x₁ y₁ : Float) → SameNumber x x₁ → SameNumber y y₁ → lt x y ≡ lt x₁ y₁
+lt-alike x y x₁ y₁ p q = lt-is x y ∙ ap isLess (versus-alike x y x₁ y₁ p q) ∙ sym (lt-is x₁ y₁)
+
+pub eq-alike : (x y x₁ y₁ : Float) → SameNumber x x₁ → SameNumber y y₁ → eq x y ≡ eq x₁ y₁
+eq-alike x y x₁ y₁ p q = eq-is x y ∙ ap isSame (versus-alike x y x₁ y₁ p q) ∙ sym (eq-is x₁ y₁)
 
 pub le-alike : (x y x₁ y₁ : Float) → SameNumber x x₁ → SameNumber y y₁ → le x y ≡ le x₁ y₁
 le-alike x y x₁ y₁ p q = le-is x y ∙ ap notMore (versus-alike x y x₁ y₁ p q) ∙ sym (le-is x₁ y₁)

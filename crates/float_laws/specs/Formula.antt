@@ -32,6 +32,9 @@ x ⧄ y = div binary64 x y
 abbrev pub zero32 : Float
 zero32 = ofBits binary32 0
 
+abbrev pub minusZero32 : Float
+minusZero32 = ofBits binary32 0x8000_0000
+
 abbrev pub quarter32 : Float
 quarter32 = ofBits binary32 0x3e80_0000
 

@@ -1,11 +1,8 @@
--- The sign of a zero: what is left of a float where it is not seen, as no comparison sees it (docs/RULES.md, "Sameness"). Definitions only.
+-- Floats up to the sign of a zero, which no comparison sees (docs/RULES.md, "Sameness"). Definitions only.
 use mathlib.Core.Path.{_≡_}
 use mathlib.Core.Bool.{false}
 use Prim.Native.Nat.{zero, suc}
-use lib.Ieee.{Float, nan, inf, fin, binary32, ofBits}
-
-abbrev pub minusZero32 : Float
-minusZero32 = ofBits binary32 0x8000_0000
+use lib.Ieee.{Float, nan, inf, fin}
 
 -- plus zero for either zero, and every other float as it is
 unfoldable pub unsignedZero : Float → Float

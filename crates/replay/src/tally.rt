@@ -1,4 +1,4 @@
-// The list, read record by record from standard input and counted call by call.
+// The list, read record by record from standard input and counted part by part.
 use super::of_buffers;
 use super::of_conics;
 use super::of_ground;
@@ -11,7 +11,7 @@ use super::sum::Sum;
 use libc::STDIN_FILENO;
 use libc::STDOUT_FILENO;
 
-// Of the call at hand: how many records there were, and in how many the answer was the original's.
+// Of the part at hand: how many records there were, and in how many the answer was the original's.
 pub struct Tally {
     pub all: u64,
     pub same: u64,
@@ -52,7 +52,7 @@ fn replayed(k: u32, r: &[u8; 80]) -> Sum {
     }
 }
 
-// Writes the rest of the line of a call, after its name.
+// Writes the rest of the line of a part, after its name.
 fn line(t: Tally) {
     io::write_all(STDOUT_FILENO, b" ");
     io::print_decimal(STDOUT_FILENO, t.same);
@@ -61,7 +61,7 @@ fn line(t: Tally) {
     io::write_all(STDOUT_FILENO, b"\n");
 }
 
-// Writes the name of a call: the bytes of a record from its second word up to an end.
+// Writes the name of a part: the bytes of a record from its second word up to an end.
 fn title(r: &[u8], end: usize) {
     if end < 4 {
         return;
@@ -84,7 +84,7 @@ fn counted(t: Tally, r: &[u8; 80]) -> Tally {
     }
 }
 
-// The tally where a record names the call of those that follow: the line of the one at hand is ended.
+// The tally where a record names those that follow: the line of the part at hand is ended.
 fn turned(t: Tally, r: &[u8; 80]) -> Tally {
     if t.all > 0 {
         line(t);
