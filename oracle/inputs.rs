@@ -103,12 +103,11 @@ impl Inputs {
 
     pub fn weight(&mut self) -> f32 {
         match self.below(16) {
-            14 | 15 => self.zero(),
             // about -1, where the formulas divide by zero
             12 => f32::from_bits(0xbf80_0000 - 4 + self.below(9) as u32),
             13 => -1.0 + (self.below(2001) as f32 - 1000.0) / 1_000_000.0,
             0 => f32::from_bits(0x7fc0_0000),
-            1 => self.zero(),
+            1 | 14 | 15 => self.zero(),
             2 => -1.0,
             3 => 1.0,
             4 => self.any(),
