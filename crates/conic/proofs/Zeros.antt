@@ -2,7 +2,7 @@
 use mathlib.Core.Path.{_≡_, refl}
 use lib.Ieee.{Float}
 use Rattle.float_laws.specs.Formula.{zero32, minusZero32}
-use Rattle.float_laws.specs.Zero.{SameNumber}
+use Rattle.float_laws.specs.Zeros.{SameNumber}
 use Rattle.float_laws.proofs.Zeros.{both-zeros, le-alike}
 use Rattle.conic.specs.Between.{exactTest}
 

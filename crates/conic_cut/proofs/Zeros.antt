@@ -5,7 +5,7 @@ use mathlib.Core.Bool.{Bool}
 use mathlib.Core.List.{List, [], _∷_}
 use mathlib.Core.Logic.{inl, inr, ⊎-elim}
 use lib.Ieee.{Float, le}
-use Rattle.float_laws.specs.Zero.{SameNumber}
+use Rattle.float_laws.specs.Zeros.{SameNumber}
 use Rattle.float_laws.proofs.Zeros.{le-alike, finite-alike}
 use Rattle.point.specs.declared.Point.{Point}
 use Rattle.conic.specs.declared.Conic.{Conic}

@@ -1,6 +1,6 @@
 -- Points up to the signs of zeros, which neither `OneWay` nor `Premise` sees (docs/RULES.md, "Sameness"). Definitions only.
 use mathlib.Core.List.{List, [], _∷_}
-use Rattle.float_laws.specs.Zero.{SameNumber}
+use Rattle.float_laws.specs.Zeros.{SameNumber}
 use Rattle.point.specs.declared.Point.{Point}
 use Rattle.conic.specs.declared.Conic.{Conic}
 use Rattle.conic.specs.Chop.{Axis, along}

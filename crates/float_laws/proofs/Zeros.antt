@@ -7,7 +7,7 @@ use native.Mathlib.Omega.{arith}
 use lib.Ieee.{Float, nan, inf, fin, up, down, lt, eq, le, ofBits}
 use lib.Ieee.Scale.{finite}
 use Rattle.float_laws.specs.Formula.{zero32, minusZero32}
-use Rattle.float_laws.specs.Zero.{unsignedZero, SameNumber}
+use Rattle.float_laws.specs.Zeros.{unsignedZero, SameNumber}
 use Rattle.float_laws.proofs.Rounding.{Cmp, cmp}
 use Rattle.float_laws.proofs.Sides.{sideOf, signed, ranked, versus, isLess, isSame, notMore, lt-is, eq-is, le-is}
 

@@ -2,4 +2,4 @@ pub mod Absolute
 pub mod Formula
 pub mod Narrow
 pub mod Root
-pub mod Zero
+pub mod Zeros
