@@ -65,13 +65,20 @@ extern "C" {
  * whatever the weight, all written coordinates are finite, the first and the last point are the conic's own, and along the
  * points the ys keep one direction, rising or falling, ties allowed (falling where the last y is below the first: test that
  * if later must not become earlier). Test the middle y with nz_between_exact and each coordinate with nz_is_finite_f32: where
- * either fails, the cut is made and answered with NZ_OK all the same, and can turn back. The promise is of the ys: the xs
- * can turn back too, for weights below 0 and through rounding.
+ * either fails, the cut is made and answered with NZ_OK all the same, and can turn back. The promise is of the ys: by this
+ * call the xs can turn back, for weights below 0 and through rounding.
  *   Pinning. Where a written point fails nz_point_is_finite, every written point but the first and the last is the
  * conic's middle point, and the answer is NZ_OK. That is a test of x * y, which overflows from about 1.8e19 on: (0,0),
  * (1e20,1e20), (2e20,2e20), weight 0.7, is pinned.
  *   Answers NZ_OK, NZ_LEVEL_TOO_HIGH or NZ_BUFFER_TOO_SHORT. */
 uint32_t nz_cut_in_order(const float *NZ_RESTRICT src, nz_len src_len, float weight, uint32_t level, float *NZ_RESTRICT out, nz_len out_len);
+
+/* The same, pinning too, with the xs put in order as the ys are: the cut for a table that is looked up by x.
+ *   The promise. From three points of finite coordinates, whatever the weight, all that is promised above of the ys is
+ * promised of each axis whose middle lies between its ends or equals one of them: of the ys, of the xs, or of both. Test the
+ * middle y and the middle x with nz_between_exact; an axis that fails is cut all the same, can turn back, and takes nothing
+ * from the other. The same answers. */
+uint32_t nz_cut_in_order_both(const float *NZ_RESTRICT src, nz_len src_len, float weight, uint32_t level, float *NZ_RESTRICT out, nz_len out_len);
 
 /* The same, pinning too, by the test of tiny-skia-path, on a product, which may overflow or underflow: there is no promise
  * on its order, and some bridges that fulfil the condition above turn back. The same answers. */

@@ -23,6 +23,7 @@ pub const fn nz_cut_room(level: u32) -> u64 {
 
 unsafe extern "C" {
     pub fn nz_cut_in_order(src: *const f32, src_len: u64, weight: f32, level: u32, out: *mut f32, out_len: u64) -> u32;
+    pub fn nz_cut_in_order_both(src: *const f32, src_len: u64, weight: f32, level: u32, out: *mut f32, out_len: u64) -> u32;
     pub fn nz_conic_chop_into_quads_pow2(src: *const f32, src_len: u64, weight: f32, level: u32, out: *mut f32, out_len: u64) -> u32;
     pub fn nz_conic_compute_quad_pow2(src: *const f32, src_len: u64, weight: f32, tolerance: f32, level: *mut u32) -> u32;
     pub fn nz_auto_conic_to_quads(src: *const f32, src_len: u64, weight: f32, out: *mut [f32; 128], quads: *mut u64) -> u32;

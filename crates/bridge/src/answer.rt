@@ -4,7 +4,6 @@ use bridge_lines::Fault;
 use bridge_lines::Line;
 use conic::Conic;
 use conic::Refusal;
-use conic::Rule;
 use conic_cut::Cut;
 use libc::STDOUT_FILENO;
 
@@ -47,35 +46,32 @@ fn points(out: &[f32; 66], count: usize) {
     }
 }
 
-// Whether the xs of the first `count` points go up and down.
-fn xs_turn(out: &[f32; 66], count: usize) -> bool {
-    let mut up = false;
-    let mut down = false;
-    let mut i = 0;
-    while i < 32 {
-        let here = out[2 * i];
-        let next = out[2 * i + 2];
-        let written = i + 1 < count;
-        up = up | (written & (here < next));
-        down = down | (written & (next < here));
-        i += 1;
+// Writes a note where no promise keeps an axis in order: where the middle b is beyond the ends.
+fn note(line: u64, a: f32, b: f32, c: f32, why: &[u8]) {
+    if !conic::between_exact(a, b, c) {
+        heading(line);
+        text(why);
     }
-    up & down
 }
 
-// Writes the points of a cut, and before them what no promise keeps: the ys go one way only where the middle one is
-// not beyond the ends, and of the xs nothing is promised, so that the points themselves are looked at.
-fn written(line: u64, conic: Conic, out: &[f32; 66], count: usize) {
+// Writes the points of a cut, and before them what no promise keeps.
+fn written(line: u64, c: Conic, out: &[f32; 66], count: usize) {
     io::print_decimal(STDOUT_FILENO, count as u64);
     text(b" points\n");
-    if !conic::between_exact(conic.p0.y, conic.p1.y, conic.p2.y) {
-        heading(line);
-        text(b"note: the ys may turn back, since the middle y is not between the end ys\n");
-    }
-    if xs_turn(out, count) {
-        heading(line);
-        text(b"note: the xs turn back\n");
-    }
+    note(
+        line,
+        c.p0.y,
+        c.p1.y,
+        c.p2.y,
+        b"note: the ys may turn back, since the middle y is not between the end ys\n",
+    );
+    note(
+        line,
+        c.p0.x,
+        c.p1.x,
+        c.p2.x,
+        b"note: the xs may turn back, since the middle x is not between the end xs\n",
+    );
     points(out, count);
 }
 
@@ -85,11 +81,11 @@ fn refused(why: Refusal) {
     text(b"\n");
 }
 
-// Cuts a bridge; level 4 has 33 points.
+// Cuts a bridge by its rule, that of both axes; level 4 has 33 points.
 fn cut(line: u64, b: Bridge) {
     let mut out = [0.0f32; 66];
     let conic = b.conic;
-    match conic_cut::chop_into_quads_pow2(&mut out, Rule::Exact, conic, b.level) {
+    match conic_cut::chop_into_quads_pow2(&mut out, conic, b.level) {
         Cut::Quads(n) => {
             let count = if n < 17 { 2 * n + 1 } else { 33 };
             written(line, conic, &out, count);

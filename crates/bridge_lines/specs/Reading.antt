@@ -6,6 +6,7 @@ use lib.Dec.{leb, ltb, eqb}
 use lib.ListN.{length, getD}
 use lib.Ieee.{Float}
 use Rattle.point.specs.Point.{pointFrom}
+use Rattle.conic.specs.declared.Rule.the-variants.{BothAxes}
 use Rattle.conic.specs.Chop.{conicFrom}
 use Rattle.bridge_lines.specs.declared.Bridge.{Bridge}
 use Rattle.bridge_lines.specs.declared.Fault.the-variants.{NoNumber, OutOfRange, TooFew, TooMany, TooLong}
@@ -36,12 +37,12 @@ judged place (w ∷ ws) good =
     (cond (inRange place w) (judged (place + 1) ws good) (Bad place OutOfRange))
     (Bad place NoNumber))
 
--- x0 y0 x1 y1 x2 y2 weight level
+-- x0 y0 x1 y1 x2 y2 weight level; a bridge is read by x, so that its rule is that of both axes
 abbrev pub bridgeOf : List (List ℕ) → Bridge
 bridgeOf ws =
     let v : ℕ → Float = λ (i : ℕ). valueOf (getD ws i []) in
     record {
-      conic = conicFrom (pointFrom (v 0) (v 1)) (pointFrom (v 2) (v 3)) (pointFrom (v 4) (v 5)) (v 6);
+      conic = conicFrom (pointFrom (v 0) (v 1)) (pointFrom (v 2) (v 3)) (pointFrom (v 4) (v 5)) (v 6) BothAxes;
       level = sizeOf (getD ws 7 []);
     }
 

@@ -13,6 +13,7 @@ use super::Line;
 use super::decimal;
 use super::scan;
 use conic::Conic;
+use conic::Rule;
 use point::Point;
 
 // Whether w is a number of the kind that its place takes.
@@ -67,7 +68,7 @@ fn value(text: &[u8], k: u32) -> f32
     }
 }
 
-// The bridge of eight words that are in range.
+// The bridge of eight words that are in range. It is read by x, so both axes are to be in order.
 fn bridge(text: &[u8]) -> Bridge
     requires { ⌜ ((k : ℕ) → k < 8 → inRange (k + 1) (getD (wordsOf (now text)) k []) ≡ true) ⌝ }
     ensures { λ r. ⌜ r ≡ bridgeOf (wordsOf (now (text .entry))) ⌝ }
@@ -86,6 +87,7 @@ fn bridge(text: &[u8]) -> Bridge
             y: value(text, 5),
         },
         weight: value(text, 6),
+        rule: Rule::BothAxes,
     };
     Bridge {
         conic,

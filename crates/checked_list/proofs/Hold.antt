@@ -8,9 +8,10 @@ use Rattle.float_laws.specs.Narrow.{roundTo}
 use Rattle.float_laws.specs.Root.{rootOf}
 use Rattle.float_laws.proofs.RootMeaning.{both}
 use Rattle.quad_roots.specs.Roots.{rootsOf, discriminantOf, dividedOf, twoRoots, collected, qOf}
-use Rattle.conic.specs.Between.{test}
-use Rattle.conic.specs.Chop.{lineOf, linesAt, halvesAt, chopAt, chopBy}
+use Rattle.conic.specs.Between.{passes}
+use Rattle.conic.specs.Chop.{lineOf, wideMiddle, linesAt, halvesAt, chopAt, chopByRule}
 use Rattle.conic.specs.Mend.{nearerOf, orderedOf, mendedOf}
+use Rattle.conic.specs.Rule.{testAlong}
 use Rattle.point.specs.Numbers.{flat}
 use Rattle.conic_cut.specs.Cut.{cutPoints, allFinite, pinned, written, cutAnswer}
 use Rattle.checked_list.specs.Figures.{Figure, root, narrowed, absolute, roots, between, cut, refused}
@@ -23,7 +24,7 @@ Computed (narrowed x r) = Holds (narrowed x r)
 Computed (absolute x r) = Holds (absolute x r)
 Computed (roots a b c l) = Holds (roots a b c l)
 Computed (between u a b c answer) = Holds (between u a b c answer)
-Computed (cut u n quads l) = Holds (cut u n quads l)
+Computed (cut u w n quads whole l) = Holds (cut u w n quads whole l)
 Computed (refused n len number) = Holds (refused n len number)
 
 abbrev AllComputed : List Figure → Type 0
@@ -36,7 +37,7 @@ holds (narrowed x r) h = h
 holds (absolute x r) h = h
 holds (roots a b c l) h = h
 holds (between u a b c answer) h = h
-holds (cut u n quads l) h = h
+holds (cut u w n quads whole l) h = h
 holds (refused n len number) h = h
 
 hold : (l : List Figure) → AllComputed l → AllHold l
@@ -49,13 +50,13 @@ a & b = (a, b)
 
 all-computed : AllComputed figures
 unfolding
-    bits at corner rootOf roundTo rootsOf discriminantOf dividedOf twoRoots collected qOf test
-    chopBy chopAt halvesAt linesAt lineOf mendedOf orderedOf nearerOf absOf cutPoints allFinite pinned written flat cutAnswer
+    bits at corner rootOf roundTo rootsOf discriminantOf dividedOf twoRoots collected qOf passes testAlong
+    chopByRule chopAt halvesAt linesAt lineOf wideMiddle mendedOf orderedOf nearerOf absOf cutPoints allFinite pinned written flat cutAnswer
     ofBits toBits fits add sub mul div lt le
 all-computed =
     (tt & refl) & (tt & refl) & (tt & refl) & (tt & refl) & (tt & refl) & refl & refl & refl & refl & refl
     & refl & refl & refl & refl & refl & refl & refl & refl & refl
-    & (refl & refl) & (refl & refl) & (refl & refl) & (refl & refl) & refl & refl & tt
+    & (refl & refl & refl) & (refl & refl & refl) & (refl & refl & refl) & (refl & refl & refl) & (refl & refl & refl) & refl & refl & tt
 
 pub all-hold : AllHold figures
 all-hold = hold figures all-computed

@@ -5,7 +5,6 @@ use mathlib.Core.Bool.{Bool, true, false}
 use mathlib.Core.List.{List, [], _∷_}
 use lib.Ieee.{Float, Format, binary32, binary64, ofBits, toBits}
 use Rattle.float_laws.specs.Absolute.{absOf}
-use Rattle.float_laws.specs.Formula.{one32}
 use Rattle.float_laws.specs.Narrow.{narrowOf}
 use Rattle.float_laws.specs.Root.{Root}
 use Rattle.point.specs.declared.Point.{Point}
@@ -13,12 +12,12 @@ use Rattle.point.specs.Point.{pointFrom}
 use Rattle.quad_roots.specs.Roots.{rootsOf, valuesOfRoots}
 use Rattle.conic.specs.declared.Conic.{Conic}
 use Rattle.conic.specs.declared.Rule.{Rule}
-use Rattle.conic.specs.declared.Rule.the-variants.{Product, Exact}
-use Rattle.conic.specs.Between.{test}
-use Rattle.conic.specs.Chop.{conicFrom, chopBy}
+use Rattle.conic.specs.declared.Rule.the-variants.{Product, Exact, BothAxes}
+use Rattle.conic.specs.Chop.{conicFrom, chopByRule}
+use Rattle.conic.specs.Rule.{test}
 use Rattle.conic_cut.specs.declared.Cut.the-variants.{Quads}
 use Rattle.point.specs.Numbers.{flat}
-use Rattle.conic_cut.specs.Cut.{written, room, cutAnswer, numberOfCut}
+use Rattle.conic_cut.specs.Cut.{allFinite, plain, written, room, cutAnswer, numberOfCut}
 
 pub data Figure : Type 0 where
   -- x and its root, in a format
@@ -31,8 +30,8 @@ pub data Figure : Type 0 where
   roots : ℕ → ℕ → ℕ → List ℕ → Figure
   -- whether the rule's test finds the second number between the others
   between : Rule → ℕ → ℕ → ℕ → Bool → Figure
-  -- the conic below cut by the rule at a level: how many quads, and the numbers of the points
-  cut : Rule → ℕ → ℕ → List ℕ → Figure
+  -- the conic below, of a weight, cut by the rule at a level: how many quads, whether no point is pinned, and the numbers of the points
+  cut : Rule → ℕ → ℕ → ℕ → Bool → List ℕ → Figure
   -- a level, how many numbers there is room for, and the number of the refusal in docs/RULES.md, "Answer numbers"
   refused : ℕ → ℕ → ℕ → Figure
 
@@ -43,9 +42,9 @@ bits (x ∷ l) = toBits binary32 x ∷ bits l
 unfoldable pub at : ℕ → ℕ → Point
 at x y = pointFrom (ofBits binary32 x) (ofBits binary32 y)
 
--- (0,0), (4,0), (4,4) at weight 1
-unfoldable pub corner : Conic
-corner = conicFrom (at 0 0) (at 0x4080_0000 0) (at 0x4080_0000 0x4080_0000) one32
+-- (0,0), (4,0), (4,4), the weight by its pattern
+unfoldable pub corner : ℕ → Rule → Conic
+corner w u = conicFrom (at 0 0) (at 0x4080_0000 0) (at 0x4080_0000 0x4080_0000) (ofBits binary32 w) u
 
 -- a root by its meaning: no other value of the format is nearer
 abbrev pub Holds : Figure → Type 0
@@ -54,7 +53,9 @@ Holds (narrowed x r) = toBits binary32 (narrowOf (ofBits binary64 x)) ≡ r
 Holds (absolute x r) = toBits binary32 (absOf (ofBits binary32 x)) ≡ r
 Holds (roots a b c l) = bits (valuesOfRoots (rootsOf (ofBits binary32 a) (ofBits binary32 b) (ofBits binary32 c))) ≡ l
 Holds (between u a b c answer) = test u (ofBits binary32 a) (ofBits binary32 b) (ofBits binary32 c) ≡ answer
-Holds (cut u n quads l) = (cutAnswer n (room n) false ≡ Quads quads) × (bits (flat (written (chopBy u) n corner)) ≡ l)
+Holds (cut u w n quads whole l) =
+    (cutAnswer n (room n) false ≡ Quads quads)
+    × ((allFinite (plain chopByRule n (corner w u)) ≡ whole) × (bits (flat (written chopByRule n (corner w u))) ≡ l))
 Holds (refused n len number) = numberOfCut (cutAnswer n len false) ≡ number
 
 abbrev pub AllHold : List Figure → Type 0
@@ -89,11 +90,13 @@ figures =
     ∷ between Exact 0 0x0d80_0000 0 false
     ∷ between Product 0xff00_0000 0x7f00_0000 0x7f00_0000 false
     ∷ between Exact 0xff00_0000 0x7f00_0000 0x7f00_0000 true
-    -- at level 0 the three points; at level 1 (0,0), (2,0), (3,1), (4,2), (4,4)
-    ∷ cut Product 0 1 (0 ∷ 0 ∷ 0x4080_0000 ∷ 0 ∷ 0x4080_0000 ∷ 0x4080_0000 ∷ [])
-    ∷ cut Exact 0 1 (0 ∷ 0 ∷ 0x4080_0000 ∷ 0 ∷ 0x4080_0000 ∷ 0x4080_0000 ∷ [])
-    ∷ cut Product 1 2 (0 ∷ 0 ∷ 0x4000_0000 ∷ 0 ∷ 0x4040_0000 ∷ 0x3f80_0000 ∷ 0x4080_0000 ∷ 0x4000_0000 ∷ 0x4080_0000 ∷ 0x4080_0000 ∷ [])
-    ∷ cut Exact 1 2 (0 ∷ 0 ∷ 0x4000_0000 ∷ 0 ∷ 0x4040_0000 ∷ 0x3f80_0000 ∷ 0x4080_0000 ∷ 0x4000_0000 ∷ 0x4080_0000 ∷ 0x4080_0000 ∷ [])
+    -- weight 1: at level 0 the three points; at level 1 (0,0), (2,0), (3,1), (4,2), (4,4)
+    ∷ cut Product 0x3f80_0000 0 1 true (0 ∷ 0 ∷ 0x4080_0000 ∷ 0 ∷ 0x4080_0000 ∷ 0x4080_0000 ∷ [])
+    ∷ cut Exact 0x3f80_0000 0 1 true (0 ∷ 0 ∷ 0x4080_0000 ∷ 0 ∷ 0x4080_0000 ∷ 0x4080_0000 ∷ [])
+    ∷ cut Product 0x3f80_0000 1 2 true (0 ∷ 0 ∷ 0x4000_0000 ∷ 0 ∷ 0x4040_0000 ∷ 0x3f80_0000 ∷ 0x4080_0000 ∷ 0x4000_0000 ∷ 0x4080_0000 ∷ 0x4080_0000 ∷ [])
+    ∷ cut Exact 0x3f80_0000 1 2 true (0 ∷ 0 ∷ 0x4000_0000 ∷ 0 ∷ 0x4040_0000 ∷ 0x3f80_0000 ∷ 0x4080_0000 ∷ 0x4000_0000 ∷ 0x4080_0000 ∷ 0x4080_0000 ∷ [])
+    -- NaN weight, both axes: (0,0), (0,0), (4,4), (4,4), (4,4), not pinned
+    ∷ cut BothAxes 0x7fc0_0000 1 2 true (0 ∷ 0 ∷ 0 ∷ 0 ∷ 0x4080_0000 ∷ 0x4080_0000 ∷ 0x4080_0000 ∷ 0x4080_0000 ∷ 0x4080_0000 ∷ 0x4080_0000 ∷ [])
     -- nine numbers of room at level 1, and level 5
     ∷ refused 1 9 2
     ∷ refused 5 1000 1

@@ -1,31 +1,45 @@
--- Where two rules answer every question of a chop alike, they give the same halves. Assumes nothing.
-use mathlib.Core.Path.{_≡_, refl, ap}
+-- Where the rules of two conics that differ in their rule alone answer every question of a chop alike, so do their halves. Assumes nothing.
+use mathlib.Core.Path.{_≡_, refl, sym, ap, _∙_}
 use mathlib.Core.Bool.{Bool, true, false, cond}
 use lib.Dec.{T}
 use lib.Ieee.{Float}
 use Rattle.conic.specs.declared.Conic.{Conic}
+use Rattle.conic.specs.declared.Halves.{Halves}
 use Rattle.conic.specs.declared.Rule.{Rule}
 use Rattle.conic.specs.declared.chopping.Line.{Line}
-use Rattle.conic.specs.Agree.{Alike, LineAlike, ChopAlike}
-use Rattle.conic.specs.Between.{test}
-use Rattle.conic.specs.Chop.{weightOf, linesOf, halvesAt, chopAt, chopBy}
+use Rattle.conic.specs.declared.chopping.Lines.{Lines}
+use Rattle.conic.specs.declared.ruling.Test.{Test}
+use Rattle.conic.specs.Agree.{withRule, LineAlike, AxisAlike, ChopAlike}
+use Rattle.conic.specs.Between.{passes}
+use Rattle.conic.specs.Chop.{linesAt, linesOf, weightOf, halvesAt, mendedLines, chopAt, chopByRule}
 use Rattle.conic.specs.Mend.{orderedOf, mendedOf}
+use Rattle.conic.specs.Rule.{X, Y, testAlong}
 
-same-ordered : (u v : Rule) (a c : Float) (l : Line) → LineAlike u v a c l → orderedOf u a c l ≡ orderedOf v a c l
+same-ordered : (s t : Test) (a c : Float) (l : Line) → LineAlike s t a c l → orderedOf s a c l ≡ orderedOf t a c l
 unfolding orderedOf
-same-ordered u v a c l h = let m = h .middle in let p = h .left in let q = h .right in cc
+same-ordered s t a c l h = let m = h .middle in let p = h .left in let q = h .right in cc
 
 same-if : (b : Bool) (x y l : Line) → (T b → x ≡ y) → cond b x l ≡ cond b y l
 same-if true x y l h = h tt
 same-if false x y l h = refl
 
-same-mended : (u v : Rule) (a b c : Float) (l : Line) → Alike u v a b c → (T (test u a b c) → LineAlike u v a c l)
-    → mendedOf u a b c l ≡ mendedOf v a b c l
+same-mended : (s t : Test) (a b c : Float) (l : Line) → AxisAlike s t a b c l → mendedOf s a b c l ≡ mendedOf t a b c l
 unfolding mendedOf
-same-mended u v a b c l e h = rw (← e) (same-if (test u a b c) (orderedOf u a c l) (orderedOf v a c l) l (λ t. same-ordered u v a c l (h t)))
+same-mended s t a b c l h =
+    rw (← h .control) (same-if (passes s a b c) (orderedOf s a c l) (orderedOf t a c l) l (λ p. same-ordered s t a c l (h .chopped p)))
 
-pub same-halves : (u v : Rule) (c : Conic) → ChopAlike u v c → chopBy u c ≡ chopBy v c
-unfolding chopAt chopBy
-same-halves u v c h =
-    ap (λ (y : Line). halvesAt (weightOf (c .weight)) c (record { x = linesOf c .x; y = y }))
-    (same-mended u v (c .p0 .y) (c .p1 .y) (c .p2 .y) (linesOf c .y) (h .control) (h .chopped))
+both-lines : (l m : Lines) → l .x ≡ m .x → l .y ≡ m .y → l ≡ m
+both-lines l m p q = rw (p, q) refl
+
+-- the halves, each with the other rule
+abbrev pub withRules : Rule → Halves → Halves
+withRules v h = record { first = withRule v (h .first); second = withRule v (h .second) }
+
+pub same-halves : (v : Rule) (c : Conic) → ChopAlike v c → chopByRule (withRule v c) ≡ withRules v (chopByRule c)
+unfolding chopAt chopByRule halvesAt linesAt
+same-halves v c h =
+    let l = linesOf c in
+    let x = same-mended (testAlong X (c .rule)) (testAlong X v) (c .p0 .x) (c .p1 .x) (c .p2 .x) (l .x) (h X) in
+    let y = same-mended (testAlong Y (c .rule)) (testAlong Y v) (c .p0 .y) (c .p1 .y) (c .p2 .y) (l .y) (h Y) in
+    let same : mendedLines c l ≡ mendedLines (withRule v c) l = both-lines (mendedLines c l) (mendedLines (withRule v c) l) x y in
+    ap (λ (m : Lines). halvesAt (weightOf (c .weight)) (withRule v c) m) (sym same)

@@ -10,6 +10,7 @@ use lib.Ieee.{Float}
 use Rattle.conic.specs.declared.Conic.{Conic}
 use Rattle.conic.specs.declared.Refusal.{Refusal}
 use Rattle.conic.specs.declared.Refusal.the-variants.{BufferTooShort}
+use Rattle.conic.specs.declared.Rule.{Rule}
 use Rattle.conic.specs.declared.FromPoints.{FromPoints}
 use Rattle.conic.specs.declared.FromPoints.the-variants.{Made, Refused}
 use Rattle.conic.specs.Refusal.{numberOfFromPoints, valuesOfFromPoints}
@@ -23,23 +24,23 @@ by-refused : (b : Bool) (d : Conic) (r : Refusal) → cond b (Refused BufferTooS
 by-refused true d r e = (refl, cc)
 by-refused false d r e = let z : _≡_ {A = ℕ} 0 1 = cc in absurd (omega arith)
 
-pub was-made : (l : List Float) (w : Float) (c : Conic) → sourceAnswer l w ≡ Made c → (ltb (length l) 6 ≡ false) × (c ≡ conicOf l w)
+pub was-made : (l : List Float) (w : Float) (u : Rule) (c : Conic) → sourceAnswer l w u ≡ Made c → (ltb (length l) 6 ≡ false) × (c ≡ conicOf l w u)
 unfolding sourceAnswer
-was-made l w c e = by-made (ltb (length l) 6) (conicOf l w) c e
+was-made l w u c e = by-made (ltb (length l) 6) (conicOf l w u) c e
 
-pub was-refused : (l : List Float) (w : Float) (r : Refusal) → sourceAnswer l w ≡ Refused r → (ltb (length l) 6 ≡ true) × (r ≡ BufferTooShort)
+pub was-refused : (l : List Float) (w : Float) (u : Rule) (r : Refusal) → sourceAnswer l w u ≡ Refused r → (ltb (length l) 6 ≡ true) × (r ≡ BufferTooShort)
 unfolding sourceAnswer
-was-refused l w r e = by-refused (ltb (length l) 6) (conicOf l w) r e
+was-refused l w u r e = by-refused (ltb (length l) 6) (conicOf l w u) r e
 
 of-answer : {A : Type 0} (of : FromPoints → A) (short : Bool) (c : Conic)
     → of (cond short (Refused BufferTooShort) (Made c)) ≡ cond short (of (Refused BufferTooShort)) (of (Made c))
 of-answer of true c = refl
 of-answer of false c = refl
 
-pub taken : {l : List Float} {w : Float} {r : FromPoints} → r ≡ sourceAnswer l w → Taken l w r
+pub taken : {l : List Float} {w : Float} {u : Rule} {r : FromPoints} → r ≡ sourceAnswer l w u → Taken l w u r
 unfolding sourceAnswer
-taken {l} {w} e = record {
+taken {l} {w} {u} e = record {
   answer = e;
-  number = ap numberOfFromPoints e ∙ of-answer numberOfFromPoints (ltb (length l) 6) (conicOf l w);
-  values = ap valuesOfFromPoints e ∙ of-answer valuesOfFromPoints (ltb (length l) 6) (conicOf l w);
+  number = ap numberOfFromPoints e ∙ of-answer numberOfFromPoints (ltb (length l) 6) (conicOf l w u);
+  values = ap valuesOfFromPoints e ∙ of-answer valuesOfFromPoints (ltb (length l) 6) (conicOf l w u);
 }

@@ -1,7 +1,7 @@
--- A chop by a rule whose test is the exact one keeps order along an axis that the rule puts in order, once for both directions:
+-- A chop keeps order along an axis that the conic's rule puts in order by the exact test, once for both axes and both directions:
 -- from a conic that runs one way it makes two that run the same way. The formulas of the chop don't enter: what is not in
 -- order is moved. Assumes nothing.
-use mathlib.Core.Path.{_≡_, refl, subst, subst⁻¹, _∙_}
+use mathlib.Core.Path.{_≡_, refl, _∙_}
 use mathlib.Core.Logic.{_⊎_, inl, inr, ⊎-elim}
 use mathlib.Core.Bool.{Bool, true, false, cond, _&&_}
 use lib.Dec.{T}
@@ -12,13 +12,14 @@ use Rattle.float_laws.proofs.Order.{le-trans-float, le-self, finite-between, or
 use Rattle.float_laws.specs.Absolute.{absOf}
 use Rattle.float_laws.specs.Formula.{_⊖_}
 use Rattle.conic.specs.declared.Conic.{Conic}
-use Rattle.conic.specs.declared.Rule.{Rule}
-use Rattle.conic.specs.declared.Rule.the-variants.{Exact}
 use Rattle.conic.specs.declared.chopping.Line.{Line}
 use Rattle.conic.specs.declared.chopping.Lines.{Lines}
-use Rattle.conic.specs.Between.{test, exactTest}
-use Rattle.conic.specs.Chop.{Axis, X, Y, along, on, scaleOf, weightOf, linesOf, halvesAt, orders, mendedLine, mendedLines, chopAt, chopBy}
+use Rattle.conic.specs.declared.ruling.Test.{Test}
+use Rattle.conic.specs.declared.ruling.Test.the-variants.{Exact}
+use Rattle.conic.specs.Between.{passes, exactTest}
+use Rattle.conic.specs.Chop.{along, on, weightOf, linesOf, halvesAt, mendedLine, mendedLines, chopAt, chopByRule}
 use Rattle.conic.specs.Mend.{nearerOf, orderedOf, mendedOf}
+use Rattle.conic.specs.Rule.{Axis, X, Y, testAlong}
 
 -- ---- a direction: `le`, or `le` turned round
 pub record Way : Type 0 where
@@ -52,27 +53,26 @@ down-way = record {
   passes = λ a b c h k. or-right (le a b && le b c) (le b a && le c b) (and-i (le b a) (le c b) h k);
 }
 
--- ---- a rule that puts the axis k in order, by the exact test
-pub record PutsInOrder (k : Axis) (u : Rule) : Type 0 where
-  pub on-axis : T (orders k u)
-  pub exact : (a b c : Float) → test u a b c ≡ exactTest a b c
-
-pub exact-rule : PutsInOrder Y Exact
-unfolding test
-exact-rule = record { on-axis = tt; exact = λ a b c. refl }
+-- ---- an axis that the conic's rule puts in order by the exact test
+abbrev pub PutsInOrder : Axis → Conic → Type 0
+PutsInOrder k c = testAlong k (c .rule) ≡ Exact
 
 true-of : (b : Bool) → T b → b ≡ true
 true-of true t = refl
 
--- the rule's line of a chop is the ordered one where the conic's middle passes
-mended-on : (k : Axis) (u : Rule) (c : Conic) → on k (mendedLines u (scaleOf (c .weight)) c) ≡ mendedLine k u c (on k (linesOf c))
-mended-on X u c = refl
-mended-on Y u c = refl
+mended-on : (k : Axis) (c : Conic) (l : Lines) → on k (mendedLines c l) ≡ mendedLine k c (on k l)
+mended-on X c l = refl
+mended-on Y c l = refl
 
-is-ordered : (k : Axis) (u : Rule) (c : Conic) → T (orders k u) → T (test u (along k (c .p0)) (along k (c .p1)) (along k (c .p2)))
-    → on k (mendedLines u (scaleOf (c .weight)) c) ≡ orderedOf u (along k (c .p0)) (along k (c .p2)) (on k (linesOf c))
-unfolding mendedOf
-is-ordered k u c o t = mended-on k u c ∙ rw (true-of (orders k u) o, true-of (test u (along k (c .p0)) (along k (c .p1)) (along k (c .p2))) t)
+-- a line is mended into the ordered one where the conic's middle passes
+exact-ordered : (t : Test) (a b c : Float) (l : Line) → t ≡ Exact → T (exactTest a b c) → mendedOf t a b c l ≡ orderedOf Exact a c l
+unfolding mendedOf passes
+exact-ordered t a b c l e h = rw (e, true-of (exactTest a b c) h)
+
+is-ordered : (k : Axis) (c : Conic) (l : Lines) → PutsInOrder k c → T (exactTest (along k (c .p0)) (along k (c .p1)) (along k (c .p2)))
+    → on k (mendedLines c l) ≡ orderedOf Exact (along k (c .p0)) (along k (c .p2)) (on k l)
+is-ordered k c l o t =
+    mended-on k c l ∙ exact-ordered (testAlong k (c .rule)) (along k (c .p0)) (along k (c .p1)) (along k (c .p2)) (on k l) o t
 
 by-test : (P : Float → Type 0) (b : Bool) (x y : Float) → (T b → P x) → P y → P (cond b x y)
 by-test P true x y f g = f tt
@@ -103,19 +103,18 @@ module _ (W : Way) where
   nearer-within a m c p q h = by-test (Within a c) (lt (absOf (m ⊖ a)) (absOf (m ⊖ c))) a c (λ _. (W .self a p, h)) (h, W .self c q)
 
   -- a correction leaves what is within, and else takes a place that is
-  kept-within : (u : Rule) → ((a b c : Float) → test u a b c ≡ exactTest a b c) → (a x c y : Float) → R a c → Within a c y
-      → Within a c (cond (test u a x c) x y)
-  kept-within u exact a x c y h k = by-test (Within a c) (test u a x c) x y (λ t. within a x c (subst T (exact a x c) t) h) k
+  kept-within : (a x c y : Float) → R a c → Within a c y → Within a c (cond (exactTest a x c) x y)
+  kept-within a x c y h k = by-test (Within a c) (exactTest a x c) x y (λ t. within a x c t h) k
 
   -- both halves of an ordered line
-  line-runs : (u : Rule) → ((a b c : Float) → test u a b c ≡ exactTest a b c) → (a c : Float) (l : Line) → T (finite a) → T (finite c) → R a c
-      → Run a (orderedOf u a c l .left) (orderedOf u a c l .middle) × Run (orderedOf u a c l .middle) (orderedOf u a c l .right) c
-  unfolding orderedOf
-  line-runs u exact a c l p q h =
-      let m = orderedOf u a c l .middle in
-      let mid : Within a c m = kept-within u exact a (l .middle) c (nearerOf a (l .middle) c) h (nearer-within a (l .middle) c p q h) in
-      let left = kept-within u exact a (l .left) m a (mid .0) (W .self a p, mid .0) in
-      let right = kept-within u exact m (l .right) c c (mid .1) (mid .1, W .self c q) in
+  line-runs : (a c : Float) (l : Line) → T (finite a) → T (finite c) → R a c
+      → Run a (orderedOf Exact a c l .left) (orderedOf Exact a c l .middle) × Run (orderedOf Exact a c l .middle) (orderedOf Exact a c l .right) c
+  unfolding orderedOf passes
+  line-runs a c l p q h =
+      let m = orderedOf Exact a c l .middle in
+      let mid : Within a c m = kept-within a (l .middle) c (nearerOf a (l .middle) c) h (nearer-within a (l .middle) c p q h) in
+      let left = kept-within a (l .left) m a (mid .0) (W .self a p, mid .0) in
+      let right = kept-within m (l .right) c c (mid .1) (mid .1, W .self c q) in
       let fin-m = W .squeeze a m c p q (mid .0) (mid .1) in (
         record { first = p; last = fin-m; low = left .0; high = left .1 },
         record { first = fin-m; last = q; low = right .0; high = right .1 },
@@ -128,12 +127,18 @@ module _ (W : Way) where
   halves-of X w c l p q = (p, q)
   halves-of Y w c l p q = (p, q)
 
-  pub halves-run : (k : Axis) (u : Rule) → PutsInOrder k u → (c : Conic) → Runs k c → Runs k (chopBy u c .first) × Runs k (chopBy u c .second)
-  unfolding chopAt chopBy
-  halves-run k u o c g =
+  pub halves-run : (k : Axis) (c : Conic) → PutsInOrder k c → Runs k c → Runs k (chopByRule c .first) × Runs k (chopByRule c .second)
+  unfolding chopAt chopByRule
+  halves-run k c o g =
       let a = along k (c .p0) in
       let b = along k (c .p1) in
       let e = along k (c .p2) in
-      let same = is-ordered k u c (o .on-axis) (subst⁻¹ T (o .exact a b e) (W .passes a b e (g .low) (g .high))) in
-      let runs = line-runs u (o .exact) a e (on k (linesOf c)) (g .first) (g .last) (W .through a b e (g .low) (g .high)) in
-      halves-of k (weightOf (c .weight)) c (mendedLines u (scaleOf (c .weight)) c) (rw same (runs .0)) (rw same (runs .1))
+      let l = linesOf c in
+      let same = is-ordered k c l o (W .passes a b e (g .low) (g .high)) in
+      let runs = line-runs a e (on k l) (g .first) (g .last) (W .through a b e (g .low) (g .high)) in
+      halves-of k (weightOf (c .weight)) c (mendedLines c l) (rw same (runs .0)) (rw same (runs .1))
+
+-- both halves have the conic's rule
+pub halves-rule : (k : Axis) (c : Conic) → PutsInOrder k c → PutsInOrder k (chopByRule c .first) × PutsInOrder k (chopByRule c .second)
+unfolding chopAt chopByRule halvesAt
+halves-rule k c o = (o, o)

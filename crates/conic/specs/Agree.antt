@@ -1,24 +1,37 @@
--- Where two rules answer every question of a chop alike (docs/RULES.md, "Conics"). Definitions only.
+-- Where the rules of two conics that differ in their rule alone answer every question of a chop alike (docs/RULES.md, "Conics").
+-- Definitions only.
 use mathlib.Core.Path.{_≡_}
 use lib.Dec.{T}
 use lib.Ieee.{Float}
 use Rattle.conic.specs.declared.Conic.{Conic}
 use Rattle.conic.specs.declared.Rule.{Rule}
 use Rattle.conic.specs.declared.chopping.Line.{Line}
-use Rattle.conic.specs.Between.{test}
-use Rattle.conic.specs.Chop.{linesOf}
+use Rattle.conic.specs.declared.ruling.Test.{Test}
+use Rattle.conic.specs.Between.{passes}
+use Rattle.conic.specs.Chop.{conicFrom, along, on, linesOf}
 use Rattle.conic.specs.Mend.{middleOf}
+use Rattle.conic.specs.Rule.{Axis, testAlong}
 
-abbrev pub Alike : Rule → Rule → Float → Float → Float → Type 0
-Alike u v a b c = test u a b c ≡ test v a b c
+-- the conic with another rule, and nothing else changed
+abbrev pub withRule : Rule → Conic → Conic
+withRule v c = conicFrom (c .p0) (c .p1) (c .p2) (c .weight) v
 
--- of the middle, and of the controls against the middle as u moves it
-pub record LineAlike (u v : Rule) (a c : Float) (l : Line) : Type 0 where
-  pub middle : Alike u v a (l .middle) c
-  pub left : Alike u v a (l .left) (middleOf u a (l .middle) c)
-  pub right : Alike u v (middleOf u a (l .middle) c) (l .right) c
+abbrev pub Alike : Test → Test → Float → Float → Float → Type 0
+Alike s t a b c = passes s a b c ≡ passes t a b c
 
--- of the conic's own middle y, and where that passes, of the ys of the chop
-pub record ChopAlike (u v : Rule) (c : Conic) : Type 0 where
-  pub control : Alike u v (c .p0 .y) (c .p1 .y) (c .p2 .y)
-  pub chopped : T (test u (c .p0 .y) (c .p1 .y) (c .p2 .y)) → LineAlike u v (c .p0 .y) (c .p2 .y) (linesOf c .y)
+-- of the middle, and of the controls against the middle as s moves it
+pub record LineAlike (s t : Test) (a c : Float) (l : Line) : Type 0 where
+  pub middle : Alike s t a (l .middle) c
+  pub left : Alike s t a (l .left) (middleOf s a (l .middle) c)
+  pub right : Alike s t (middleOf s a (l .middle) c) (l .right) c
+
+-- of a conic's own middle b, and where that passes, of the line of the chop
+pub record AxisAlike (s t : Test) (a b c : Float) (l : Line) : Type 0 where
+  pub control : Alike s t a b c
+  pub chopped : T (passes s a b c) → LineAlike s t a c l
+
+-- along each axis, of the conic's rule and of v
+abbrev pub ChopAlike : Rule → Conic → Type 0
+ChopAlike v c =
+    (k : Axis)
+    → AxisAlike (testAlong k (c .rule)) (testAlong k v) (along k (c .p0)) (along k (c .p1)) (along k (c .p2)) (on k (linesOf c))

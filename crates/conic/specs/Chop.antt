@@ -1,5 +1,5 @@
 -- What a chop makes of a conic: the formulas, operation by operation, for one axis at a time (docs/RULES.md, "Conics"). Definitions only.
-use mathlib.Core.Bool.{Bool, true, false, cond}
+use mathlib.Core.Bool.{Bool, cond, _&&_}
 use lib.Ieee.{Float, binary32}
 use Rattle.float_laws.specs.Formula.{_⊕_, _⊗_, _⊘_, _⊞_, _⊠_, _⧄_, half32, one32, half64, one64, two64}
 use Rattle.float_laws.specs.Narrow.{narrowOf}
@@ -12,13 +12,11 @@ use Rattle.conic.specs.declared.Rule.{Rule}
 use Rattle.conic.specs.declared.chopping.Line.{Line}
 use Rattle.conic.specs.declared.chopping.Lines.{Lines}
 use Rattle.conic.specs.declared.depth.Depth.{Depth}
-use Rattle.conic.specs.Mend.{mendedOf}
+use Rattle.conic.specs.Mend.{mendedOf, staysOf}
+use Rattle.conic.specs.Rule.{Axis, X, Y, testAlong}
 
-abbrev pub conicFrom : Point → Point → Point → Float → Conic
-conicFrom a b c w = record { p0 = a; p1 = b; p2 = c; weight = w }
-
-pub data Axis : Type 0 where
-  X Y : Axis
+abbrev pub conicFrom : Point → Point → Point → Float → Rule → Conic
+conicFrom a b c w u = record { p0 = a; p1 = b; p2 = c; weight = w; rule = u }
 
 abbrev pub along : Axis → Point → Float
 along X p = p .x
@@ -74,37 +72,39 @@ linesOf c = linesAt (scaleOf (c .weight)) c
 abbrev pub weightOf : Float → Float
 weightOf w = rootOf binary32 (half32 ⊕ w ⊗ half32)
 
--- the halves that these lines make, of weight w
+-- the halves that these lines make, of weight w, with the conic's rule
 unfoldable pub halvesAt : Float → Conic → Lines → Halves
 halvesAt w c l =
     let m = pointFrom (l .x .middle) (l .y .middle) in
     record {
-      first = conicFrom (c .p0) (pointFrom (l .x .left) (l .y .left)) m w;
-      second = conicFrom m (pointFrom (l .x .right) (l .y .right)) (c .p2) w;
+      first = conicFrom (c .p0) (pointFrom (l .x .left) (l .y .left)) m w (c .rule);
+      second = conicFrom m (pointFrom (l .x .right) (l .y .right)) (c .p2) w (c .rule);
     }
 
 unfoldable pub chopOf : Conic → Halves
 chopOf c = halvesAt (weightOf (c .weight)) c (linesOf c)
 
--- ---- a chop by a rule
--- which axes a rule puts in order
-abbrev pub orders : Axis → Rule → Bool
-orders X u = false
-orders Y u = true
+-- ---- a chop by the conic's rule
+abbrev pub mendedLine : Axis → Conic → Line → Line
+mendedLine k c l = mendedOf (testAlong k (c .rule)) (along k (c .p0)) (along k (c .p1)) (along k (c .p2)) l
 
-abbrev pub mendedLine : Axis → Rule → Conic → Line → Line
-mendedLine k u c l = cond (orders k u) (mendedOf u (along k (c .p0)) (along k (c .p1)) (along k (c .p2)) l) l
+abbrev pub mendedLines : Conic → Lines → Lines
+mendedLines c l = record { x = mendedLine X c (l .x); y = mendedLine Y c (l .y) }
 
-abbrev pub mendedLines : Rule → Float → Conic → Lines
-mendedLines u s c = record { x = mendedLine X u c (linesAt s c .x); y = mendedLine Y u c (linesAt s c .y) }
+-- both lines are left as they are
+abbrev pub staysLine : Axis → Conic → Line → Bool
+staysLine k c l = staysOf (testAlong k (c .rule)) (along k (c .p0)) (along k (c .p1)) (along k (c .p2)) l
+
+abbrev pub stayingLines : Conic → Lines → Bool
+stayingLines c l = staysLine Y c (l .y) && staysLine X c (l .x)
 
 -- what all conics of weight w share
 abbrev pub depthOf : Float → Depth
 depthOf w = record { scale = scaleOf w; weight = weightOf w }
 
-unfoldable pub chopAt : Rule → Depth → Conic → Halves
-chopAt u d c = halvesAt (d .weight) c (mendedLines u (d .scale) c)
+unfoldable pub chopAt : Depth → Conic → Halves
+chopAt d c = halvesAt (d .weight) c (mendedLines c (linesAt (d .scale) c))
 
-unfoldable pub chopBy : Rule → Conic → Halves
+unfoldable pub chopByRule : Conic → Halves
 unfolding chopAt
-chopBy u c = chopAt u (depthOf (c .weight)) c
+chopByRule c = chopAt (depthOf (c .weight)) c

@@ -4,4 +4,5 @@ pub mod Chop
 pub mod Level
 pub mod Mend
 pub mod Refusal
+pub mod Rule
 pub mod Source

@@ -1,8 +1,10 @@
 // The formulas of a chop, one axis at a time. Carried over from `path_geometry.rs` of tiny-skia-path 0.12.0.
 ghost use mathlib.Core.Path.{_≡_};
-ghost use Rattle.conic.specs.Chop.{lineOf, withMiddle, wideMiddle, plainLines, wholeMiddle, linesAt, halvesAt};
+ghost use Rattle.conic.specs.Chop.{lineOf, withMiddle, wideMiddle, plainLines, wholeMiddle, linesAt, mendedLines, stayingLines, halvesAt};
 use crate::Conic;
 use crate::Halves;
+use crate::mending;
+use crate::ruling;
 use point::Point;
 
 // What a chop puts between a start and an end, along one axis: the first half's control, the middle, the second half's control.
@@ -79,10 +81,31 @@ pub fn chopped(c: Conic, scale: f32) -> Lines
     Lines { x, y }
 }
 
+// Whether `mended` would leave both lines of c.
+pub fn stay(c: Conic, l: Lines) -> bool
+    ensures { λ r. ⌜ r ≡ stayingLines c l ⌝ }
+{
+    let rule = c.rule;
+    let y = mending::stays(ruling::along_y(rule), c.p0.y, c.p1.y, c.p2.y, l.y);
+    let x = mending::stays(ruling::along_x(rule), c.p0.x, c.p1.x, c.p2.x, l.x);
+    y & x
+}
+
+// The lines of c, each put in order where its rule asks for it along that axis.
+pub fn mended(c: Conic, l: Lines) -> Lines
+    ensures { λ r. ⌜ r ≡ mendedLines c l ⌝ }
+{
+    let rule = c.rule;
+    let x = mending::mended(ruling::along_x(rule), c.p0.x, c.p1.x, c.p2.x, l.x);
+    let y = mending::mended(ruling::along_y(rule), c.p0.y, c.p1.y, c.p2.y, l.y);
+    Lines { x, y }
+}
+
 // The halves of c that these lines make, number by number: a point that is copied whole is slower.
 pub fn halves(c: Conic, l: Lines, weight: f32) -> Halves
     ensures { λ r. ⌜ r ≡ halvesAt weight c l ⌝ }
 {
+    let rule = c.rule;
     let first = Conic {
         p0: Point {
             x: c.p0.x,
@@ -97,6 +120,7 @@ pub fn halves(c: Conic, l: Lines, weight: f32) -> Halves
             y: l.y.middle,
         },
         weight,
+        rule,
     };
     let second = Conic {
         p0: Point {
@@ -112,6 +136,7 @@ pub fn halves(c: Conic, l: Lines, weight: f32) -> Halves
             y: c.p2.y,
         },
         weight,
+        rule,
     };
     Halves { first, second }
 }

@@ -1,13 +1,10 @@
 // What all conics of one depth of a cut share, for a cut to compute once a depth. A single conic is halved by
-// `Conic::chop_by`.
+// `Conic::chop_by_rule`.
 ghost use mathlib.Core.Path.{_≡_};
 ghost use Rattle.conic.specs.Chop.{scaleOf, depthOf, chopAt};
 use crate::Conic;
 use crate::Halves;
-use crate::Rule;
 use crate::chopping;
-use crate::chopping::Lines;
-use crate::mending;
 
 // The scale of a chop, and the weight of the halves.
 pub struct Depth {
@@ -33,27 +30,26 @@ impl Depth {
         }
     }
 
-    // Both halves of c, with their ys moved into order where the rule's test finds c's own in order. Mostly the middle is
-    // finite at once and the ys stay, so that is asked first, and the rest is left to a call that is hardly ever made.
-    pub fn chop(self, rule: Rule, c: Conic) -> Halves
-        ensures { λ r. ⌜ r ≡ chopAt rule self c ⌝ }
+    // Both halves of c, moved into order as its rule asks. Mostly the middle is finite at once and the lines stay, so that is
+    // asked first, and the rest is left to a call that is hardly ever made.
+    pub fn chop(self, c: Conic) -> Halves
+        ensures { λ r. ⌜ r ≡ chopAt self c ⌝ }
     {
         let l = chopping::plain_lines(c, self.scale);
-        if chopping::is_whole(l) {
-            if mending::stays(rule, c.p0.y, c.p1.y, c.p2.y, l.y) {
-                return chopping::halves(c, l, self.weight);
-            }
+        if !chopping::is_whole(l) {
+            return self.chop_in_full(c);
         }
-        self.chop_in_full(rule, c)
+        if !chopping::stay(c, l) {
+            return self.chop_in_full(c);
+        }
+        chopping::halves(c, l, self.weight)
     }
 
     // The same, with each correction.
-    fn chop_in_full(self, rule: Rule, c: Conic) -> Halves
-        ensures { λ r. ⌜ r ≡ chopAt rule self c ⌝ }
+    fn chop_in_full(self, c: Conic) -> Halves
+        ensures { λ r. ⌜ r ≡ chopAt self c ⌝ }
     {
         let l = chopping::chopped(c, self.scale);
-        let x = l.x;
-        let y = mending::mended(rule, c.p0.y, c.p1.y, c.p2.y, l.y);
-        chopping::halves(c, Lines { x, y }, self.weight)
+        chopping::halves(c, chopping::mended(c, l), self.weight)
     }
 }

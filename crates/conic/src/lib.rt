@@ -1,11 +1,13 @@
-// Conics: three points and a weight. How one is halved, and into how many quads it is cut.
+// Conics: three points, a weight and a rule. How one is halved, and into how many quads it is cut.
 // Carried over from `path_geometry.rs` of tiny-skia-path 0.12.0; the rules, and an answer for each refusal, are added.
 ghost use mathlib.Core.Path.{_≡_};
 ghost use mathlib.Core.Bool.{false};
-ghost use Rattle.conic.specs.Between.{productTest, exactTest, test};
-ghost use Rattle.conic.specs.Chop.{conicFrom, weightOf, chopOf, chopBy};
+ghost use Rattle.conic.specs.declared.Rule.the-variants.{Product};
+ghost use Rattle.conic.specs.Between.{productTest, exactTest};
+ghost use Rattle.conic.specs.Chop.{conicFrom, weightOf, chopOf, chopByRule};
 ghost use Rattle.conic.specs.Level.{Chosen};
 ghost use Rattle.conic.specs.Refusal.{numberOfRefusal, numberOfFromPoints, numberOfLevel};
+ghost use Rattle.conic.specs.Rule.{test};
 ghost use Rattle.conic.specs.Source.{conicOf, shortSource, Taken};
 use depth::Depth;
 use point::Point;
@@ -14,13 +16,15 @@ mod chopping;
 pub mod depth;
 mod leveling;
 mod mending;
+mod ruling;
 
-// A conic from p0 to p2, bent towards p1.
+// A conic from p0 to p2, bent towards p1. All that is cut from it goes by its rule.
 pub struct Conic {
     pub p0: Point,
     pub p1: Point,
     pub p2: Point,
     pub weight: f32,
+    pub rule: Rule,
 }
 
 // What a chop makes of a conic; the halves meet in the middle.
@@ -29,10 +33,11 @@ pub struct Halves {
     pub second: Conic,
 }
 
-// Which between test a cut goes by.
+// Which between test a cut goes by, and along which axes: y alone, by either test, or both, by the exact one.
 pub enum Rule {
     Product,
     Exact,
+    BothAxes,
 }
 
 // Why a call does nothing.
@@ -108,30 +113,33 @@ pub fn between_exact(a: f32, b: f32, c: f32) -> bool
     ((a <= b) & (b <= c)) | ((a >= b) & (b >= c))
 }
 
-// The rule's own test.
+// The rule's own test, by which it goes along y.
 pub fn between(rule: Rule, a: f32, b: f32, c: f32) -> bool
     ensures { λ r. ⌜ r ≡ test rule a b c ⌝ }
 {
-    match rule {
-        Rule::Product => between_product(a, b, c),
-        Rule::Exact => between_exact(a, b, c),
-    }
+    ruling::passes(ruling::along_y(rule), a, b, c)
 }
 
 impl Conic {
     // The highest level that a conic is cut at.
     pub const MAX_CONIC_TO_QUAD_POW2: u32 = 4;
 
-    // The conic of these points and this weight.
-    pub fn new(p0: Point, p1: Point, p2: Point, weight: f32) -> Self
-        ensures { λ r. ⌜ r ≡ conicFrom p0 p1 p2 weight ⌝ }
+    // The conic of these points, this weight and this rule.
+    pub fn new(p0: Point, p1: Point, p2: Point, weight: f32, rule: Rule) -> Self
+        ensures { λ r. ⌜ r ≡ conicFrom p0 p1 p2 weight rule ⌝ }
     {
-        Conic { p0, p1, p2, weight }
+        Conic {
+            p0,
+            p1,
+            p2,
+            weight,
+            rule,
+        }
     }
 
     // The conic of the first six numbers, x and y of each point; refused where there are fewer.
-    pub fn from_points(src: &[f32], weight: f32) -> FromPoints
-        ensures { λ r. ⌜ Taken (now (src .entry)) weight r ⌝ }
+    pub fn from_points(src: &[f32], weight: f32, rule: Rule) -> FromPoints
+        ensures { λ r. ⌜ Taken (now (src .entry)) weight rule r ⌝ }
     {
         if src.len() < 6 {
             return FromPoints::Refused(Refusal::BufferTooShort);
@@ -148,10 +156,16 @@ impl Conic {
             x: src[4],
             y: src[5],
         };
-        FromPoints::Made(Conic { p0, p1, p2, weight })
+        FromPoints::Made(Conic {
+            p0,
+            p1,
+            p2,
+            weight,
+            rule,
+        })
     }
 
-    // Both halves, as the formulas give them.
+    // Both halves, as the formulas give them, with the conic's rule.
     pub fn chop(self) -> Halves
         ensures { λ r. ⌜ r ≡ chopOf self ⌝ }
     {
@@ -167,11 +181,11 @@ impl Conic {
         float_ground::sqrt_f32(0.5 + weight * 0.5)
     }
 
-    // Both halves, with their ys moved into order where the rule's test finds the conic's own in order.
-    pub fn chop_by(self, rule: Rule) -> Halves
-        ensures { λ r. ⌜ r ≡ chopBy rule self ⌝ }
+    // Both halves, moved into order along each axis on which the rule's test finds the conic's own points in order.
+    pub fn chop_by_rule(self) -> Halves
+        ensures { λ r. ⌜ r ≡ chopByRule self ⌝ }
     {
-        Depth::of(self.weight).chop(rule, self)
+        Depth::of(self.weight).chop(self)
     }
 
     // The least level, from 1 on, at which the estimate of the quads' distance from the conic is within the tolerance; at
@@ -188,15 +202,15 @@ impl Conic {
         Level::Pow2(leveling::level(self, tolerance))
     }
 
-    // The same of the conic of the first six numbers. Fewer are refused after a bad tolerance.
+    // The same of the conic of the first six numbers. Fewer are refused after a bad tolerance. A rule has no part in it.
     pub fn compute_quad_pow2_from(src: &[f32], weight: f32, tolerance: f32) -> Level
-        ensures { λ r. ⌜ Chosen (shortSource (now (src .entry))) (conicOf (now (src .entry)) weight) tolerance r ⌝ }
+        ensures { λ r. ⌜ Chosen (shortSource (now (src .entry))) (conicOf (now (src .entry)) weight Product) tolerance r ⌝ }
     {
         let bad = leveling::is_bad(tolerance);
         if bad {
             return Level::Refused(Refusal::BadTolerance);
         }
-        match Conic::from_points(src, weight) {
+        match Conic::from_points(src, weight, Rule::Product) {
             FromPoints::Made(c) => c.compute_quad_pow2(tolerance),
             FromPoints::Refused(r) => Level::Refused(r),
         }

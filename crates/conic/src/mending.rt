@@ -1,11 +1,11 @@
 // The corrections after a chop, along one axis. Carried over from `subdivide` in `path_geometry.rs` of tiny-skia-path 0.12.0.
 ghost use mathlib.Core.Path.{_≡_};
-ghost use mathlib.Core.Bool.{cond, not, _||_};
-ghost use Rattle.conic.specs.Between.{test};
-ghost use Rattle.conic.specs.Mend.{nearerOf, orderedOf, inOrder, mendedOf};
-use crate::Rule;
-use crate::between;
+ghost use mathlib.Core.Bool.{cond};
+ghost use Rattle.conic.specs.Between.{passes};
+ghost use Rattle.conic.specs.Mend.{nearerOf, orderedOf, inOrder, mendedOf, staysOf};
 use crate::chopping::Line;
+use crate::ruling;
+use crate::ruling::Test;
 
 // The end that m is nearer to; c on a tie, and where a difference is NaN.
 fn nearer(a: f32, m: f32, c: f32) -> f32
@@ -19,19 +19,23 @@ fn nearer(a: f32, m: f32, c: f32) -> f32
 }
 
 // b where it lies between a and c, and else the other.
-fn kept(rule: Rule, a: f32, b: f32, c: f32, other: f32) -> f32
-    ensures { λ r. ⌜ r ≡ cond (test rule a b c) b other ⌝ }
+fn kept(test: Test, a: f32, b: f32, c: f32, other: f32) -> f32
+    ensures { λ r. ⌜ r ≡ cond (passes test a b c) b other ⌝ }
 {
-    if between(rule, a, b, c) { b } else { other }
+    if ruling::passes(test, a, b, c) {
+        b
+    } else {
+        other
+    }
 }
 
-// The middle moved to the nearer end, and then each control to its own, where the rule asks for it.
-fn in_order(rule: Rule, a: f32, c: f32, l: Line) -> Line
-    ensures { λ r. ⌜ r ≡ orderedOf rule a c l ⌝ }
+// The middle moved to the nearer end, and then each control to its own, where the test fails.
+fn in_order(test: Test, a: f32, c: f32, l: Line) -> Line
+    ensures { λ r. ⌜ r ≡ orderedOf test a c l ⌝ }
 {
-    let middle = kept(rule, a, l.middle, c, nearer(a, l.middle, c));
-    let left = kept(rule, a, l.left, middle, a);
-    let right = kept(rule, middle, l.right, c, c);
+    let middle = kept(test, a, l.middle, c, nearer(a, l.middle, c));
+    let left = kept(test, a, l.left, middle, a);
+    let right = kept(test, middle, l.right, c, c);
     Line {
         left,
         middle,
@@ -40,30 +44,30 @@ fn in_order(rule: Rule, a: f32, c: f32, l: Line) -> Line
 }
 
 // Whether the middle and both controls are in order as they are.
-fn is_in_order(rule: Rule, a: f32, c: f32, l: Line) -> bool
-    ensures { λ r. ⌜ r ≡ inOrder rule a c l ⌝ }
+fn is_in_order(test: Test, a: f32, c: f32, l: Line) -> bool
+    ensures { λ r. ⌜ r ≡ inOrder test a c l ⌝ }
 {
-    between(rule, a, l.middle, c)
-        & between(rule, a, l.left, l.middle)
-        & between(rule, l.middle, l.right, c)
+    ruling::passes(test, a, l.middle, c)
+        & ruling::passes(test, a, l.left, l.middle)
+        & ruling::passes(test, l.middle, l.right, c)
 }
 
 // Whether `mended` would leave the line: where it is in order as it is, or b does not lie between the ends.
-pub fn stays(rule: Rule, a: f32, b: f32, c: f32, l: Line) -> bool
-    ensures { λ r. ⌜ r ≡ (inOrder rule a c l || not (test rule a b c)) ⌝ }
+pub fn stays(test: Test, a: f32, b: f32, c: f32, l: Line) -> bool
+    ensures { λ r. ⌜ r ≡ staysOf test a b c l ⌝ }
 {
-    if is_in_order(rule, a, c, l) {
+    if is_in_order(test, a, c, l) {
         return true;
     }
-    !between(rule, a, b, c)
+    !ruling::passes(test, a, b, c)
 }
 
 // The line of a chop from a to c: put in order where b lies between them.
-pub fn mended(rule: Rule, a: f32, b: f32, c: f32, l: Line) -> Line
-    ensures { λ r. ⌜ r ≡ mendedOf rule a b c l ⌝ }
+pub fn mended(test: Test, a: f32, b: f32, c: f32, l: Line) -> Line
+    ensures { λ r. ⌜ r ≡ mendedOf test a b c l ⌝ }
 {
-    if between(rule, a, b, c) {
-        return in_order(rule, a, c, l);
+    if ruling::passes(test, a, b, c) {
+        return in_order(test, a, c, l);
     }
     l
 }

@@ -1,28 +1,24 @@
--- Where two rules answer every question of a cut alike, they cut alike. Assumes nothing.
+-- Where the rules of two conics that differ in their rule alone answer every question of a cut alike, the same points are written.
+-- Assumes nothing.
 use mathlib.Core.Path.{_≡_, refl}
 use Prim.Native.Nat.{ℕ, zero, suc}
 use Rattle.conic.specs.declared.Conic.{Conic}
-use Rattle.conic.specs.declared.Halves.{Halves}
 use Rattle.conic.specs.declared.Rule.{Rule}
-use Rattle.conic.specs.Agree.{ChopAlike}
-use Rattle.conic.specs.Chop.{chopBy}
+use Rattle.conic.specs.Agree.{withRule}
+use Rattle.conic.specs.Chop.{chopByRule}
 use Rattle.conic.proofs.Agree.{same-halves}
 use Rattle.conic_cut.specs.Agree.{Throughout, CutAlike}
-use Rattle.conic_cut.specs.Cut.{cutPoints, written}
+use Rattle.conic_cut.specs.Cut.{cutPoints, pinned, written}
 
-module _ (P : Conic → Type 0) (f g : Conic → Halves) (same : (c : Conic) → P c → f c ≡ g c) where
-  same-points : (n : ℕ) (c : Conic) → Throughout P f n c → cutPoints f n c ≡ cutPoints g n c
-  unfolding cutPoints Throughout
-  same-points zero c h = refl
-  same-points (suc n) c h =
-      let e = same c (h .0) in
-      let p = same-points n (f c .first) (h .1 .0) in
-      let q = same-points n (f c .second) (h .1 .1) in
-      cc
+same-points : (v : Rule) (n : ℕ) (c : Conic) → CutAlike v n c → cutPoints chopByRule n (withRule v c) ≡ cutPoints chopByRule n c
+unfolding cutPoints Throughout
+same-points v zero c h = refl
+same-points v (suc n) c h =
+    let halves = same-halves v c (h .0) in
+    let p = same-points v n (chopByRule c .first) (h .1 .0) in
+    let q = same-points v n (chopByRule c .second) (h .1 .1) in
+    rw (halves, p, q) refl
 
-  pub same-written : (n : ℕ) (c : Conic) → Throughout P f n c → written f n c ≡ written g n c
-  unfolding written
-  same-written n c h = rw (same-points n c h)
-
-pub rules-agree : (u v : Rule) (n : ℕ) (c : Conic) → CutAlike u v n c → written (chopBy u) n c ≡ written (chopBy v) n c
-rules-agree u v n c h = same-written (ChopAlike u v) (chopBy u) (chopBy v) (same-halves u v) n c h
+pub rules-agree : (v : Rule) (n : ℕ) (c : Conic) → CutAlike v n c → written chopByRule n (withRule v c) ≡ written chopByRule n c
+unfolding written pinned
+rules-agree v n c h = rw (same-points v n c h) refl

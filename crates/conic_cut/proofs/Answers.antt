@@ -1,4 +1,4 @@
--- The answer and the buffer of a cut, by the tests that led there, and the order of the ys in the buffer. Assumes nothing.
+-- The answer and the buffer of a cut, by the tests that led there, and the order of what is in the buffer. Assumes nothing.
 use mathlib.Core.Path.{_≡_, refl, sym, ap, _∙_, subst⁻¹}
 use mathlib.Core.Bool.{Bool, true, false, cond, _||_}
 use mathlib.Core.List.{List, _++_}
@@ -7,24 +7,21 @@ use native.Mathlib.Omega.{arith}
 use borrow.Author.Tests.{lt-ltb, le-ltb}
 use lib.Dec.{ltb}
 use lib.ListN.{length, drop}
-use lib.Seq.{sets}
+use lib.Seq.{sets, take-at, drop-at}
 use lib.Ieee.{Float}
 use Rattle.conic.specs.declared.Conic.{Conic}
 use Rattle.conic.specs.declared.Halves.{Halves}
 use Rattle.conic.specs.declared.Refusal.the-variants.{LevelTooHigh, BufferTooShort}
-use Rattle.conic.specs.declared.Rule.{Rule}
-use Rattle.conic.specs.declared.Rule.the-variants.{Exact}
-use Rattle.conic.specs.Chop.{Y, chopBy}
+use Rattle.conic.specs.Chop.{chopByRule}
 use Rattle.conic.specs.Level.{ceiling}
-use Rattle.conic.proofs.Ways.{exact-rule}
 use Rattle.conic_cut.specs.declared.Cut.{Cut}
 use Rattle.conic_cut.specs.declared.Cut.the-variants.{Quads, Refused}
-use Rattle.point.specs.Numbers.{flat}
+use Rattle.point.specs.Numbers.{flat, pointsOf}
 use Rattle.conic_cut.specs.Cut.{written, room, cutAnswer, cutBuffer, numberOfCut, valuesOfCut, CutInto}
-use Rattle.conic_cut.specs.Order.{InOrder, OrderKept}
+use Rattle.conic_cut.specs.Order.{cutIn, InOrder, OrderKept}
 use Rattle.conic_cut.proofs.Lists.{sets-whole}
 use Rattle.conic_cut.proofs.Order.{cut-in-order}
-use Rattle.conic_cut.proofs.Stores.{flat-length, written-length}
+use Rattle.conic_cut.proofs.Stores.{flat-length, points-flat, written-length}
 
 of-answer : {A : Type 0} (of : Cut → A) (deep short : Bool) (q : ℕ)
     → of (cond deep (Refused LevelTooHigh) (cond short (Refused BufferTooShort) (Quads q)))
@@ -64,15 +61,19 @@ module _ (f : Conic → Halves) (n : ℕ) (c : Conic) (l : List Float) (low : n 
   pub stored-cut : sets l 0 (flat (written f n c)) ≡ cutBuffer f n c false l
   stored-cut = sets-whole (flat (written f n c)) l (room n) (omega (arith, flat-length (written f n c), written-length f n c)) fits ∙ sym buffer-cut
 
-pub kept-order : (u : Rule) (n : ℕ) (c : Conic) (l l₁ : List Float) → l₁ ≡ cutBuffer (chopBy u) n c false l → OrderKept u n c l l₁
-kept-order u n c l l₁ e exact low fits bridge = record {
-  points = written (chopBy u) n c;
-  count = written-length (chopBy u) n c;
-  stored = e ∙ buffer-cut (chopBy u) n c l low fits;
-  in-order = subst⁻¹ (λ (v : Rule). InOrder Y c (written (chopBy v) n c)) exact (cut-in-order Y Exact exact-rule n c bridge);
-}
+pub kept-order : (n : ℕ) (c : Conic) (l l₁ : List Float) → l₁ ≡ cutBuffer chopByRule n c false l → OrderKept n c l l₁
+kept-order n c l l₁ e k o low fits bridge =
+    let ps = written chopByRule n c in
+    let stored = e ∙ buffer-cut chopByRule n c l low fits in
+    let long : length (flat ps) ≡ room n = omega (arith, flat-length ps, written-length chopByRule n c) in
+    let there : cutIn n l₁ ≡ ps = ap (cutIn n) stored ∙ ap pointsOf (take-at (flat ps) (drop (room n) l) (room n) long) ∙ points-flat ps in
+    record {
+      count = ap length there ∙ written-length chopByRule n c;
+      in-order = subst⁻¹ (InOrder k c) there (cut-in-order k n c o bridge);
+      rest = ap (drop (room n)) stored ∙ drop-at (flat ps) (drop (room n) l) (room n) long;
+    }
 
 -- the same of a lent source
-pub kept-order-from : (u : Rule) (n : ℕ) (c : Conic) (l l₁ src : List Float)
-    → l₁ ≡ cutBuffer (chopBy u) n c (ltb (length src) 6) l → 6 ≤ length src → OrderKept u n c l l₁
-kept-order-from u n c l l₁ src e h = kept-order u n c l l₁ (e ∙ ap (λ (b : Bool). cutBuffer (chopBy u) n c b l) (le-ltb (length src) 6 h))
+pub kept-order-from : (n : ℕ) (c : Conic) (l l₁ src : List Float)
+    → l₁ ≡ cutBuffer chopByRule n c (ltb (length src) 6) l → 6 ≤ length src → OrderKept n c l l₁
+kept-order-from n c l l₁ src e h = kept-order n c l l₁ (e ∙ ap (λ (b : Bool). cutBuffer chopByRule n c b l) (le-ltb (length src) 6 h))

@@ -11,8 +11,7 @@ use Rattle.conic.specs.declared.Conic.{Conic}
 use Rattle.conic.specs.declared.Level.the-variants as L
 use Rattle.conic.specs.declared.Refusal.{Refusal}
 use Rattle.conic.specs.declared.Refusal.the-variants.{PointNotFinite}
-use Rattle.conic.specs.declared.Rule.the-variants.{Product}
-use Rattle.conic.specs.Chop.{chopBy}
+use Rattle.conic.specs.Chop.{chopByRule}
 use Rattle.conic.specs.Level.{ceiling, badTolerance, conicFinite, levelAnswer}
 use Rattle.conic.proofs.Levels.{level-low}
 use Rattle.conic_cut.specs.declared.AutoConicToQuads.{AutoConicToQuads}
@@ -43,14 +42,14 @@ unfolding zeros
 room-there n h = omega (arith, pow-mono h)
 
 pub auto-cut : (c : Conic) (n : ℕ) → levelAnswer false c quarter32 ≡ L.Pow2 n
-    → (cutAnswer n (length zeros) false ≡ autoAnswer c) × (cutBuffer (chopBy Product) n c false zeros ≡ autoPoints c)
+    → (cutAnswer n (length zeros) false ≡ autoAnswer c) × (cutBuffer chopByRule n c false zeros ≡ autoPoints c)
 unfolding autoAnswer autoPoints
 auto-cut c n e =
     let t = by-level (conicFinite c) (autoLevel c) n (sym (answer-is c) ∙ e) in
     let h = level-low c quarter32 in
     let fits = room-there (autoLevel c) h in
     rw (t .0, t .1)
-    (sym (answer-cut (chopBy Product) (autoLevel c) c zeros h fits), buffer-cut (chopBy Product) (autoLevel c) c zeros h fits)
+    (sym (answer-cut chopByRule (autoLevel c) c zeros h fits), buffer-cut chopByRule (autoLevel c) c zeros h fits)
 
 pub auto-refused : (c : Conic) (q : Refusal) → levelAnswer false c quarter32 ≡ L.Refused q → (Refused q ≡ autoAnswer c) × (zeros ≡ autoPoints c)
 unfolding autoAnswer autoPoints

@@ -9,9 +9,8 @@ use lib.Seq.{getD-set-same, getD-set-other}
 use lib.Ieee.{Float, nan}
 use Rattle.conic.specs.declared.Conic.{Conic}
 use Rattle.conic.specs.declared.Halves.{Halves}
-use Rattle.conic.specs.declared.Rule.{Rule}
 use Rattle.conic.specs.declared.depth.Depth.{Depth}
-use Rattle.conic.specs.Chop.{scaleOf, weightOf, halvesAt, chopAt, chopBy}
+use Rattle.conic.specs.Chop.{scaleOf, weightOf, halvesAt, chopAt, chopByRule}
 use Rattle.conic_cut.specs.Cut.{cutPoints}
 use Rattle.conic_cut.specs.Ladder.{rungsOf, Rungs}
 
@@ -70,17 +69,17 @@ unfolding Rungs
 rung zero l w nz h = absurd (nz refl)
 rung (suc n) l w nz h = rw sub-one h
 
--- halves that are cut further, at the level n, as the rule's own are, and have the rungs for it
-pub record Halved (u : Rule) (n : ℕ) (l : List Float) (c : Conic) (h : Halves) : Type 0 where
-  pub first : cutPoints (chopBy u) n (h .first) ≡ cutPoints (chopBy u) n (chopBy u c .first)
-  pub second : cutPoints (chopBy u) n (h .second) ≡ cutPoints (chopBy u) n (chopBy u c .second)
+-- halves that are cut further, at the level n, as the conic's own are, and have the rungs for it
+pub record Halved (n : ℕ) (l : List Float) (c : Conic) (h : Halves) : Type 0 where
+  pub first : cutPoints chopByRule n (h .first) ≡ cutPoints chopByRule n (chopByRule c .first)
+  pub second : cutPoints chopByRule n (h .second) ≡ cutPoints chopByRule n (chopByRule c .second)
   pub first-rungs : Rungs l n (h .first .weight)
   pub second-rungs : Rungs l n (h .second .weight)
 
-pub chop-rung : (u : Rule) (n : ℕ) (l : List Float) (c : Conic) (d : Depth) (h : Halves) → d .scale ≡ scaleOf (c .weight)
-    → ((n ≡ 0 → ⊥) → d .weight ≡ weightOf (c .weight)) → Rungs l n (weightOf (c .weight)) → h ≡ chopAt u d c → Halved u n l c h
-unfolding chopBy chopAt halvesAt cutPoints Rungs
-chop-rung u zero l c d h es ew r e = rw (e, es) (record { first = refl; second = refl; first-rungs = tt; second-rungs = tt })
-chop-rung u (suc n) l c d h es ew r e =
+pub chop-rung : (n : ℕ) (l : List Float) (c : Conic) (d : Depth) (h : Halves) → d .scale ≡ scaleOf (c .weight)
+    → ((n ≡ 0 → ⊥) → d .weight ≡ weightOf (c .weight)) → Rungs l n (weightOf (c .weight)) → h ≡ chopAt d c → Halved n l c h
+unfolding chopByRule chopAt halvesAt cutPoints Rungs
+chop-rung zero l c d h es ew r e = rw (e, es) (record { first = refl; second = refl; first-rungs = tt; second-rungs = tt })
+chop-rung (suc n) l c d h es ew r e =
     let w = ew (λ z. omega (arith, z)) in
     rw (e, es, w) (record { first = refl; second = refl; first-rungs = r; second-rungs = r })

@@ -1,4 +1,4 @@
--- Along an axis that a rule puts in order the points of a cut keep one direction, once for both directions, either axis
+-- Along an axis that the conic's rule puts in order by the exact test the points of a cut keep one direction, once for both directions, either axis
 -- and every level. Assumes nothing.
 use mathlib.Core.Path.{_≡_, refl, ap, _∙_, subst, subst⁻¹}
 use mathlib.Core.Logic.{inl, inr, ⊎-elim}
@@ -14,9 +14,9 @@ use Rattle.point.specs.declared.Point.{Point}
 use Rattle.point.specs.Point.{pointFinite}
 use Rattle.conic.specs.declared.Conic.{Conic}
 use Rattle.conic.specs.declared.Halves.{Halves}
-use Rattle.conic.specs.declared.Rule.{Rule}
-use Rattle.conic.specs.Chop.{Axis, X, Y, along, halvesAt, chopAt, chopBy}
-use Rattle.conic.proofs.Ways.{Way, Runs, up-way, down-way, PutsInOrder, halves-run}
+use Rattle.conic.specs.Chop.{along, halvesAt, chopAt, chopByRule}
+use Rattle.conic.specs.Rule.{Axis, X, Y}
+use Rattle.conic.proofs.Ways.{Way, Runs, up-way, down-way, PutsInOrder, halves-run, halves-rule}
 use Rattle.conic_cut.specs.Cut.{cutPoints, allFinite, plain, pinned, written}
 use Rattle.conic_cut.specs.Order.{Steps, OneWay, FiniteCoordinates, AllFiniteCoordinates, firstOf, lastOf, Premise, InOrder}
 use Rattle.conic_cut.proofs.Stores.{KeepsEnd, inner, cut-split}
@@ -27,9 +27,9 @@ pub record Joined (f : Conic → Halves) : Type 0 where
   pub joint : (c : Conic) → f c .first .p2 ≡ f c .second .p0
   pub end : KeepsEnd f
 
-pub joined : (u : Rule) → Joined (chopBy u)
-unfolding chopBy chopAt halvesAt
-joined u = record { start = λ c. refl; joint = λ c. refl; end = λ c. refl }
+pub joined : Joined chopByRule
+unfolding chopByRule chopAt halvesAt
+joined = record { start = λ c. refl; joint = λ c. refl; end = λ c. refl }
 
 -- ---- lists of points
 last-is : (s p : Point) (l : List Point) → lastOf s (l ++ (p ∷ [])) ≡ p
@@ -77,23 +77,26 @@ written-by : (P : List Point → Type 0) (b : Bool) (x y : List Point) → (T b 
 written-by P true x y h j = h tt
 written-by P false x y h j = j
 
-module _ (k : Axis) (u : Rule) (o : PutsInOrder k u) (n : ℕ) (c : Conic) (g : Premise k c) where
+module _ (k : Axis) (n : ℕ) (c : Conic) (o : PutsInOrder k c) (g : Premise k c) where
   abbrev runs-of : (W : Way) → T (W .rel (along k (c .p0)) (along k (c .p1))) × T (W .rel (along k (c .p1)) (along k (c .p2))) → Runs W k c
   runs-of W h = record { first = g .start k; last = g .end k; low = h .0; high = h .1 }
 
-  plain-steps : (W : Way) → Runs W k c → Steps (W .rel) k (plain (chopBy u) n c)
-  plain-steps W r = cut-steps (W .rel) k (chopBy u) (joined u) (Runs W k) (halves-run W k u o) (λ d q. (q .low, q .high)) n c r
+  plain-steps : (W : Way) → Runs W k c → Steps (W .rel) k (plain chopByRule n c)
+  plain-steps W r =
+      cut-steps (W .rel) k chopByRule joined (λ d. PutsInOrder k d × Runs W k d)
+      (λ d q. let rule = halves-rule k d (q .0) in let runs = halves-run W k d (q .0) (q .1) in ((rule .0, runs .0), (rule .1, runs .1)))
+      (λ d q. (q .1 .low, q .1 .high)) n c (o, r)
 
   pins-steps : (W : Way) → Runs W k c → Steps (W .rel) k (pinned n c)
   unfolding pinned
   pins-steps W r = pinned-steps W k (c .p1) (c .p2) (W .self (along k (c .p1)) (g .middle k)) (r .high) (c .p0) (2 * 2 ^ n - 1) (r .low)
 
-  steps-of : (W : Way) → Runs W k c → Steps (W .rel) k (written (chopBy u) n c)
+  steps-of : (W : Way) → Runs W k c → Steps (W .rel) k (written chopByRule n c)
   unfolding written
   steps-of W r =
-      written-by (Steps (W .rel) k) (allFinite (plain (chopBy u) n c)) (plain (chopBy u) n c) (pinned n c) (λ _. plain-steps W r) (pins-steps W r)
+      written-by (Steps (W .rel) k) (allFinite (plain chopByRule n c)) (plain chopByRule n c) (pinned n c) (λ _. plain-steps W r) (pins-steps W r)
 
-  one-way : OneWay k (written (chopBy u) n c)
+  one-way : OneWay k (written chopByRule n c)
   unfolding up-way down-way
   one-way =
       ⊎-elim (λ h. inl (steps-of up-way (runs-of up-way h))) (λ h. inr (steps-of down-way (runs-of down-way h)))
@@ -110,12 +113,12 @@ passed-finite [] t = tt
 passed-finite (p ∷ ps) t = (coordinates p (and-l (pointFinite p) (allFinite ps) t), passed-finite ps (and-r (pointFinite p) (allFinite ps) t))
 
 -- by a rule that puts the axis in order, a cut is in order
-pub cut-in-order : (k : Axis) (u : Rule) → PutsInOrder k u → (n : ℕ) (c : Conic) → Premise k c → InOrder k c (written (chopBy u) n c)
+pub cut-in-order : (k : Axis) (n : ℕ) (c : Conic) → PutsInOrder k c → Premise k c → InOrder k c (written chopByRule n c)
 unfolding written pinned firstOf lastOf AllFiniteCoordinates
-cut-in-order k u o n c g =
+cut-in-order k n c o g =
     let m = 2 * 2 ^ n - 1 in
     let ends : List Point → Type 0 = λ ps. AllFiniteCoordinates ps × (firstOf (c .p0) ps ≡ c .p0) × (lastOf (c .p0) ps ≡ c .p2) in
-    let rest = written-by ends (allFinite (plain (chopBy u) n c)) (plain (chopBy u) n c) (pinned n c)
-    (λ t. (passed-finite (plain (chopBy u) n c) t, refl, cut-last (chopBy u) (joined u .end) n c (c .p0)))
+    let rest = written-by ends (allFinite (plain chopByRule n c)) (plain chopByRule n c) (pinned n c)
+    (λ t. (passed-finite (plain chopByRule n c) t, refl, cut-last chopByRule (joined .end) n c (c .p0)))
     ((g .start, pinned-finite (c .p1) (c .p2) m (g .middle) (g .end)), refl, last-is (c .p0) (c .p2) (replicate m (c .p1))) in
-    record { one-way = one-way k u o n c g; all-finite = rest .0; first = rest .1; last = rest .2 }
+    record { one-way = one-way k n c o g; all-finite = rest .0; first = rest .1; last = rest .2 }

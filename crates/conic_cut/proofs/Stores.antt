@@ -37,7 +37,7 @@ flat-length [] = refl
 flat-length (p ∷ ps) = omega (arith, flat-length ps)
 
 -- the numbers of the points are read back as these points
-points-flat : (ps : List Point) → pointsOf (flat ps) ≡ ps
+pub points-flat : (ps : List Point) → pointsOf (flat ps) ≡ ps
 unfolding flat pointsOf
 points-flat [] = refl
 points-flat (p ∷ ps) = ap (λ (l : List Point). p ∷ l) (points-flat ps)

@@ -9,7 +9,8 @@ use Rattle.float_laws.specs.Zeros.{SameNumber}
 use Rattle.float_laws.proofs.Zeros.{le-alike, finite-alike}
 use Rattle.point.specs.declared.Point.{Point}
 use Rattle.conic.specs.declared.Conic.{Conic}
-use Rattle.conic.specs.Chop.{Axis, along}
+use Rattle.conic.specs.Chop.{along}
+use Rattle.conic.specs.Rule.{Axis}
 use Rattle.conic.proofs.Zeros.{exact-alike}
 use Rattle.conic_cut.specs.Order.{Steps, ge, OneWay, FiniteCoordinates, Premise}
 use Rattle.conic_cut.specs.Zeros.{SameNumbers, SameCorners}

@@ -1,4 +1,5 @@
--- What `AutoConicToQuads` answers: the product rule's cut at the level for a tolerance of a quarter (docs/RULES.md, "Conics"). Definitions only.
+-- What `AutoConicToQuads` answers of a conic, which has the product rule: the cut at the level for a tolerance of a quarter
+-- (docs/RULES.md, "Conics"). Definitions only.
 use Prim.Native.Nat.{ℕ, _^_}
 use mathlib.Core.Path.{_≡_}
 use mathlib.Core.Bool.{cond}
@@ -9,8 +10,7 @@ use Rattle.float_laws.specs.Formula.{zero32, quarter32}
 use Rattle.conic.specs.declared.Conic.{Conic}
 use Rattle.conic.specs.declared.Refusal.{Refusal}
 use Rattle.conic.specs.declared.Refusal.the-variants.{PointNotFinite}
-use Rattle.conic.specs.declared.Rule.the-variants.{Product}
-use Rattle.conic.specs.Chop.{chopBy}
+use Rattle.conic.specs.Chop.{chopByRule}
 use Rattle.conic.specs.Level.{conicFinite, levelOf}
 use Rattle.conic_cut.specs.declared.AutoConicToQuads.{AutoConicToQuads}
 use Rattle.conic_cut.specs.declared.Cut.{Cut}
@@ -33,7 +33,7 @@ unfoldable pub autoAnswer : Conic → Cut
 autoAnswer c = refuseAuto c Refused (Quads (2 ^ autoLevel c))
 
 unfoldable pub autoPoints : Conic → List Float
-autoPoints c = refuseAuto c (λ _. zeros) (flat (written (chopBy Product) (autoLevel c) c) ++ drop (room (autoLevel c)) zeros)
+autoPoints c = refuseAuto c (λ _. zeros) (flat (written chopByRule (autoLevel c) c) ++ drop (room (autoLevel c)) zeros)
 
 -- the answer, its number and its values, and the points; two results that meet it are one (`one-computed` of proofs/Unique)
 pub record Computed (c : Conic) (r : AutoConicToQuads) : Type 0 where

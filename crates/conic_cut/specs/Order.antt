@@ -2,20 +2,20 @@
 use Prim.Native.Nat.{ℕ, _+_, _*_, _^_, _≤_}
 use mathlib.Core.Path.{_≡_}
 use mathlib.Core.Bool.{Bool}
-use mathlib.Core.List.{List, [], _∷_, _++_}
+use mathlib.Core.List.{List, [], _∷_}
 use mathlib.Core.Logic.{_⊎_}
 use lib.Dec.{T}
-use lib.ListN.{length, drop}
+use lib.ListN.{length, take, drop}
 use lib.Ieee.{Float, le}
 use lib.Ieee.Scale.{finite}
 use Rattle.point.specs.declared.Point.{Point}
 use Rattle.conic.specs.declared.Conic.{Conic}
-use Rattle.conic.specs.declared.Rule.{Rule}
-use Rattle.conic.specs.declared.Rule.the-variants.{Exact}
+use Rattle.conic.specs.declared.ruling.Test.the-variants.{Exact}
 use Rattle.conic.specs.Between.{exactTest}
-use Rattle.conic.specs.Chop.{Axis, Y, along}
+use Rattle.conic.specs.Chop.{along}
 use Rattle.conic.specs.Level.{ceiling}
-use Rattle.point.specs.Numbers.{flat}
+use Rattle.conic.specs.Rule.{Axis, testAlong}
+use Rattle.point.specs.Numbers.{pointsOf}
 use Rattle.conic_cut.specs.Cut.{room}
 
 -- along k each point stands to the next as R says
@@ -62,13 +62,20 @@ pub record InOrder (k : Axis) (c : Conic) (ps : List Point) : Type 0 where
   pub first : firstOf (c .p0) ps ≡ c .p0
   pub last : lastOf (c .p0) ps ≡ c .p2
 
--- a buffer, l at entry and l₁ at exit, holds such points as a cut at the level n has, and after them what it held
-pub record OrderedCut (k : Axis) (n : ℕ) (c : Conic) (l l₁ : List Float) : Type 0 where
-  pub points : List Point
-  pub count : length points ≡ 2 * 2 ^ n + 1
-  pub stored : l₁ ≡ flat points ++ drop (room n) l
-  pub in-order : InOrder k c points
+-- the points that a buffer holds after a cut at the level n
+abbrev pub cutIn : ℕ → List Float → List Point
+cutIn n l = pointsOf (take (room n) l)
 
--- docs/RULES.md, "Order": by the exact rule, of the ys
-abbrev pub OrderKept : Rule → ℕ → Conic → List Float → List Float → Type 0
-OrderKept u n c l l₁ = u ≡ Exact → n ≤ ceiling → room n ≤ length l → Premise Y c → OrderedCut Y n c l l₁
+-- a buffer, l at entry and l₁ at exit, holds as many points as a cut at the level n has, in order along k, and after them what it held
+pub record OrderedCut (k : Axis) (n : ℕ) (c : Conic) (l l₁ : List Float) : Type 0 where
+  pub count : length (cutIn n l₁) ≡ 2 * 2 ^ n + 1
+  pub in-order : InOrder k c (cutIn n l₁)
+  pub rest : drop (room n) l₁ ≡ drop (room n) l
+
+-- docs/RULES.md, "Order", along k
+abbrev pub OrderAlong : Axis → ℕ → Conic → List Float → List Float → Type 0
+OrderAlong k n c l l₁ = n ≤ ceiling → room n ≤ length l → Premise k c → OrderedCut k n c l l₁
+
+-- along each axis that the conic's rule puts in order by the exact test; of both at once it is said of the same points
+abbrev pub OrderKept : ℕ → Conic → List Float → List Float → Type 0
+OrderKept n c l l₁ = (k : Axis) → testAlong k (c .rule) ≡ Exact → OrderAlong k n c l l₁

@@ -3,7 +3,8 @@ use mathlib.Core.List.{List, [], _∷_}
 use Rattle.float_laws.specs.Zeros.{SameNumber}
 use Rattle.point.specs.declared.Point.{Point}
 use Rattle.conic.specs.declared.Conic.{Conic}
-use Rattle.conic.specs.Chop.{Axis, along}
+use Rattle.conic.specs.Chop.{along}
+use Rattle.conic.specs.Rule.{Axis}
 
 -- point by point the same along k, but that a zero may have another sign
 unfoldable pub SameNumbers : Axis → List Point → List Point → Type 0

@@ -4,12 +4,11 @@ ghost use mathlib.Core.List.{[], _∷_};
 ghost use Prim.Native.Nat.{_+_, _*_, _^_, _≤_};
 ghost use lib.ListN.{length, replicate};
 ghost use lib.Seq.{sets};
-ghost use Rattle.conic.specs.Chop.{chopBy};
+ghost use Rattle.conic.specs.Chop.{chopByRule};
 ghost use Rattle.point.specs.Numbers.{flat, pointsOf};
 ghost use Rattle.conic_cut.specs.Ladder.{deepest, rungsOf, Rungs};
 ghost use Rattle.conic_cut.specs.Cut.{allFinite, cutPoints, pinned, written};
 use conic::Conic;
-use conic::Rule;
 use conic::depth::Depth;
 use point::Point;
 
@@ -67,16 +66,9 @@ fn put_quad(out: &mut [f32], at: usize, c: Conic) -> usize
 }
 
 // Stores all the points of the cut but the first from `at` on, and answers the next place.
-fn subdivide(
-    out: &mut [f32],
-    at: usize,
-    rungs: &[f32; RUNGS],
-    rule: Rule,
-    c: Conic,
-    level: u32,
-) -> usize
+fn subdivide(out: &mut [f32], at: usize, rungs: &[f32; RUNGS], c: Conic, level: u32) -> usize
     requires { ⌜ at + 4 * 2 ^ level ≤ length (now out) ⌝ ∗ ⌜ level ≤ deepest ⌝ ∗ ⌜ Rungs (now rungs) level (c .weight) ⌝ }
-    ensures { λ r. ⌜ (r ≡ at + 4 * 2 ^ level) × (now (out .exit) ≡ sets (now (out .entry)) at (flat (cutPoints (chopBy rule) level c))) ⌝ }
+    ensures { λ r. ⌜ (r ≡ at + 4 * 2 ^ level) × (now (out .exit) ≡ sets (now (out .entry)) at (flat (cutPoints chopByRule level c))) ⌝ }
 {
     if level == 0 {
         return put_quad(out, at, c);
@@ -86,9 +78,9 @@ fn subdivide(
     // At level 1 the ladder holds no weight: halves of level 0 are stored, not cut.
     let scale = rungs[rung];
     let weight = rungs[rung + 1];
-    let h = Depth { scale, weight }.chop(rule, c);
-    let next = subdivide(out, at, rungs, rule, h.first, less);
-    subdivide(out, next, rungs, rule, h.second, less)
+    let h = Depth { scale, weight }.chop(c);
+    let next = subdivide(out, at, rungs, h.first, less);
+    subdivide(out, next, rungs, h.second, less)
 }
 
 // Whether each point of s, two numbers a point, passes the crate's finite test.
@@ -122,14 +114,14 @@ fn pin(out: &mut [f32], at: usize, p: Point, n: usize)
 }
 
 // Stores all the points of the cut. Where one is not finite, all but the first and the last become c's middle point.
-fn store_cut(out: &mut [f32], rule: Rule, c: Conic, level: u32)
+fn store_cut(out: &mut [f32], c: Conic, level: u32)
     requires { ⌜ 2 + 4 * 2 ^ level ≤ length (now out) ⌝ ∗ ⌜ level ≤ deepest ⌝ }
-    ensures { λ _. ⌜ now (out .exit) ≡ sets (now (out .entry)) 0 (flat (written (chopBy rule) level c)) ⌝ }
+    ensures { λ _. ⌜ now (out .exit) ≡ sets (now (out .entry)) 0 (flat (written chopByRule level c)) ⌝ }
 {
     let mut rungs = [0.0f32; RUNGS];
     ladder(&mut rungs, c.weight, level);
     let at = put(out, 0, c.p0);
-    let end = subdivide(out, at, &rungs, rule, c, level);
+    let end = subdivide(out, at, &rungs, c, level);
     if all_finite(&out[0..end]) {
         return;
     }
@@ -148,14 +140,14 @@ fn store_pinned(out: &mut [f32], c: Conic, level: u32)
 }
 
 // The same as `store_cut`. Where an end is not finite the points are pinned whatever the cut is, so it is not made.
-pub fn store(out: &mut [f32], rule: Rule, c: Conic, level: u32)
+pub fn store(out: &mut [f32], c: Conic, level: u32)
     requires { ⌜ 2 + 4 * 2 ^ level ≤ length (now out) ⌝ ∗ ⌜ level ≤ deepest ⌝ }
-    ensures { λ _. ⌜ now (out .exit) ≡ sets (now (out .entry)) 0 (flat (written (chopBy rule) level c)) ⌝ }
+    ensures { λ _. ⌜ now (out .exit) ≡ sets (now (out .entry)) 0 (flat (written chopByRule level c)) ⌝ }
 {
     let p0 = c.p0;
     let p2 = c.p2;
     if p0.is_finite() & p2.is_finite() {
-        store_cut(out, rule, c, level);
+        store_cut(out, c, level);
         return;
     }
     store_pinned(out, c, level);

@@ -6,7 +6,8 @@ ghost use mathlib.Core.Path.{_≡_};
 ghost use mathlib.Core.Bool.{false};
 ghost use Prim.Native.Nat.{_≤_};
 ghost use lib.ListN.{length};
-ghost use Rattle.conic.specs.Chop.{conicFrom, chopBy};
+ghost use Rattle.conic.specs.declared.Rule.the-variants.{Product};
+ghost use Rattle.conic.specs.Chop.{conicFrom, chopByRule};
 ghost use Rattle.conic.specs.Source.{conicOf, shortSource};
 ghost use Rattle.conic_cut.specs.Auto.{Computed};
 ghost use Rattle.conic_cut.specs.Cut.{CutInto, numberOfCut};
@@ -38,11 +39,11 @@ impl Cut {
     }
 }
 
-// Cuts c into 2^level quads, which share their ends: x and y of each point, from the start of `out` on.
+// Cuts c by its rule into 2^level quads, which share their ends: x and y of each point, from the start of `out` on.
 // A level above 4 is refused, and then room for fewer than 2^level * 2 + 1 points; `out` is untouched.
-pub fn chop_into_quads_pow2(out: &mut [f32], rule: Rule, c: Conic, level: u32) -> Cut
-    ensures { λ r. ⌜ CutInto (chopBy rule) level c false (now (out .entry)) r (now (out .exit)) ⌝ }
-    ensures order { λ _. ⌜ OrderKept rule level c (now (out .entry)) (now (out .exit)) ⌝ }
+pub fn chop_into_quads_pow2(out: &mut [f32], c: Conic, level: u32) -> Cut
+    ensures { λ r. ⌜ CutInto chopByRule level c false (now (out .entry)) r (now (out .exit)) ⌝ }
+    ensures order { λ _. ⌜ OrderKept level c (now (out .entry)) (now (out .exit)) ⌝ }
 {
     if Conic::MAX_CONIC_TO_QUAD_POW2 < level {
         return Cut::Refused(Refusal::LevelTooHigh);
@@ -51,28 +52,28 @@ pub fn chop_into_quads_pow2(out: &mut [f32], rule: Rule, c: Conic, level: u32) -
     if out.len() < 4 * quads + 2 {
         return Cut::Refused(Refusal::BufferTooShort);
     }
-    cutting::store(out, rule, c, level);
+    cutting::store(out, c, level);
     Cut::Quads(quads)
 }
 
-// The same of the conic of the first six numbers of `src`.
+// The same of the conic of the first six numbers of `src`, with this weight and this rule.
 pub fn chop_into_quads_pow2_from(
     out: &mut [f32],
-    rule: Rule,
     src: &[f32],
     weight: f32,
+    rule: Rule,
     level: u32,
 ) -> Cut
-    ensures { λ r. ⌜ CutInto (chopBy rule) level (conicOf (now (src .entry)) weight) (shortSource (now (src .entry)))
+    ensures { λ r. ⌜ CutInto chopByRule level (conicOf (now (src .entry)) weight rule) (shortSource (now (src .entry)))
         (now (out .entry)) r (now (out .exit)) ⌝ }
     ensures order { λ _. ⌜ (6 ≤ length (now (src .entry))
-        → OrderKept rule level (conicOf (now (src .entry)) weight) (now (out .entry)) (now (out .exit))) ⌝ }
+        → OrderKept level (conicOf (now (src .entry)) weight rule) (now (out .entry)) (now (out .exit))) ⌝ }
 {
     if level > Conic::MAX_CONIC_TO_QUAD_POW2 {
         return Cut::Refused(Refusal::LevelTooHigh);
     }
-    match Conic::from_points(src, weight) {
-        FromPoints::Made(c) => chop_into_quads_pow2(out, rule, c, level),
+    match Conic::from_points(src, weight, rule) {
+        FromPoints::Made(c) => chop_into_quads_pow2(out, c, level),
         FromPoints::Refused(r) => Cut::Refused(r),
     }
 }
@@ -86,12 +87,12 @@ pub struct AutoConicToQuads {
 impl AutoConicToQuads {
     // The crate's cut, by the product rule.
     pub fn compute(p0: Point, p1: Point, p2: Point, weight: f32) -> Self
-        ensures { λ r. ⌜ Computed (conicFrom p0 p1 p2 weight) r ⌝ }
+        ensures { λ r. ⌜ Computed (conicFrom p0 p1 p2 weight Product) r ⌝ }
     {
-        let c = Conic::new(p0, p1, p2, weight);
+        let c = Conic::new(p0, p1, p2, weight, Rule::Product);
         let mut points = [0.0f32; 128];
         let answer = match c.compute_quad_pow2(0.25) {
-            Level::Pow2(level) => chop_into_quads_pow2(&mut points, Rule::Product, c, level),
+            Level::Pow2(level) => chop_into_quads_pow2(&mut points, c, level),
             Level::Refused(r) => Cut::Refused(r),
         };
         AutoConicToQuads { points, answer }

@@ -48,7 +48,7 @@ fn numbers(s: &[f32]) {
 // The number of quads, and what `out` then holds.
 fn cut(name: &[u8], out: &mut [f32], rule: Rule, src: &[f32], weight: f32, level: u32) {
     print::text(name);
-    match conic_cut::chop_into_quads_pow2_from(out, rule, src, weight, level) {
+    match conic_cut::chop_into_quads_pow2_from(out, src, weight, rule, level) {
         Cut::Quads(n) => {
             print::count(n as u64);
             numbers(out);
@@ -73,6 +73,14 @@ fn cuts() {
     bend(b"level 5:", &mut ten, 5);
     let nan = 0.0 / 0.0;
     cut(b"NaN weight:", &mut ten, Rule::Exact, &BEND, nan, 1);
+    cut(
+        b"NaN weight, both axes:",
+        &mut ten,
+        Rule::BothAxes,
+        &BEND,
+        nan,
+        1,
+    );
     cut(b"ys 0, 8, 0:", &mut ten, Rule::Exact, &BACK, 1.0, 1);
 }
 

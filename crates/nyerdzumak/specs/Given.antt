@@ -8,6 +8,7 @@ use lib.ListN.{length}
 use lib.Ieee.{Float}
 use Rattle.cubics.specs.declared.Inflections.{Inflections}
 use Rattle.cubics.specs.Cubics.{numberOfInflections, valuesOfInflections}
+use Rattle.conic.specs.declared.Rule.the-variants.{Product}
 use Rattle.conic.specs.Source.{conicOf, refuseSource}
 use Rattle.conic_cut.specs.declared.Cut.{Cut}
 use Rattle.conic_cut.specs.declared.Cut.the-variants.{Quads, Refused}
@@ -34,4 +35,4 @@ pointsOr l (Refused r) ps = l
 
 -- of a lent source
 abbrev pub autoFrom : List Float → Float → Cut
-autoFrom l w = refuseSource l Refused (autoAnswer (conicOf l w))
+autoFrom l w = refuseSource l Refused (autoAnswer (conicOf l w Product))

@@ -3,15 +3,16 @@ ghost use mathlib.Core.Path.{_≡_};
 ghost use mathlib.Core.List.{[], _∷_};
 ghost use Prim.Native.Nat.{_≤_};
 ghost use lib.ListN.{length};
-ghost use Rattle.conic.specs.declared.Rule.the-variants.{Product, Exact};
+ghost use Rattle.conic.specs.declared.Rule.the-variants.{Product, Exact, BothAxes};
 ghost use Rattle.conic.specs.Between.{productTest, exactTest};
-ghost use Rattle.conic.specs.Chop.{chopOf, chopBy};
+ghost use Rattle.conic.specs.Chop.{chopOf, chopByRule};
 ghost use Rattle.conic.specs.Level.{refuseLevel, levelOf};
 ghost use Rattle.conic.specs.Refusal.{numberOfRefusal, valuesOfRefusal, numberOfLevel, valuesOfLevel};
+ghost use Rattle.conic.specs.Rule.{X, Y};
 ghost use Rattle.conic.specs.Source.{conicOf, shortSource, refuseSource};
 ghost use Rattle.conic_cut.specs.Auto.{autoPoints};
 ghost use Rattle.conic_cut.specs.Cut.{refuseCut, cutBuffer, numberOfCut, valuesOfCut};
-ghost use Rattle.conic_cut.specs.Order.{OrderKept};
+ghost use Rattle.conic_cut.specs.Order.{OrderAlong};
 ghost use Rattle.nyerdzumak.specs.Given.{firstOr, filledOr, pointsOr, autoFrom};
 ghost use Rattle.nyerdzumak.specs.Lent.{halfNumbers};
 use conic::Conic;
@@ -65,9 +66,9 @@ fn give_halves(c: Conic, halves: &mut [f32; 14])
 pub extern "C" fn nz_conic_chop(src: &[f32], weight: f32, halves: &mut [f32; 14]) -> u32
     ensures { λ r. ⌜ r ≡ refuseSource (now (src .entry)) numberOfRefusal 0 ⌝ }
     ensures halves { λ _. ⌜ now (halves .exit) ≡ filledOr (now (halves .entry))
-        (refuseSource (now (src .entry)) valuesOfRefusal (halfNumbers (chopOf (conicOf (now (src .entry)) weight)))) ⌝ }
+        (refuseSource (now (src .entry)) valuesOfRefusal (halfNumbers (chopOf (conicOf (now (src .entry)) weight Product)))) ⌝ }
 {
-    let answer = Conic::from_points(src, weight);
+    let answer = Conic::from_points(src, weight, Rule::Product);
     let number = answer.number();
     match answer {
         FromPoints::Made(c) => {
@@ -102,10 +103,10 @@ pub extern "C" fn nz_conic_compute_quad_pow2(
     tolerance: f32,
     level: &mut u32,
 ) -> u32
-    ensures { λ r. ⌜ r ≡ refuseLevel (shortSource (now (src .entry))) (conicOf (now (src .entry)) weight) tolerance numberOfRefusal 0 ⌝ }
+    ensures { λ r. ⌜ r ≡ refuseLevel (shortSource (now (src .entry))) (conicOf (now (src .entry)) weight Product) tolerance numberOfRefusal 0 ⌝ }
     ensures level { λ _. ⌜ now (level .exit) ≡ firstOr (now (level .entry))
-        (refuseLevel (shortSource (now (src .entry))) (conicOf (now (src .entry)) weight) tolerance valuesOfRefusal
-        (levelOf (conicOf (now (src .entry)) weight) tolerance ∷ [])) ⌝ }
+        (refuseLevel (shortSource (now (src .entry))) (conicOf (now (src .entry)) weight Product) tolerance valuesOfRefusal
+        (levelOf (conicOf (now (src .entry)) weight Product) tolerance ∷ [])) ⌝ }
 {
     give_level(Conic::compute_quad_pow2_from(src, weight, tolerance), level)
 }
@@ -119,10 +120,10 @@ pub extern "C" fn nz_conic_chop_into_quads_pow2(
     out: &mut [f32],
 ) -> u32
     ensures { λ r. ⌜ r ≡ refuseCut level (length (now (out .entry))) (shortSource (now (src .entry))) numberOfRefusal 0 ⌝ }
-    ensures buffer { λ _. ⌜ now (out .exit) ≡ cutBuffer (chopBy Product) level (conicOf (now (src .entry)) weight)
+    ensures buffer { λ _. ⌜ now (out .exit) ≡ cutBuffer chopByRule level (conicOf (now (src .entry)) weight Product)
         (shortSource (now (src .entry))) (now (out .entry)) ⌝ }
 {
-    conic_cut::chop_into_quads_pow2_from(out, Rule::Product, src, weight, level).number()
+    conic_cut::chop_into_quads_pow2_from(out, src, weight, Rule::Product, level).number()
 }
 
 // The same by the exact between test. From three finite points whose middle y lies between the end ys or equals one, the
@@ -130,12 +131,27 @@ pub extern "C" fn nz_conic_chop_into_quads_pow2(
 #[no_mangle]
 pub extern "C" fn nz_cut_in_order(src: &[f32], weight: f32, level: u32, out: &mut [f32]) -> u32
     ensures { λ r. ⌜ r ≡ refuseCut level (length (now (out .entry))) (shortSource (now (src .entry))) numberOfRefusal 0 ⌝ }
-    ensures buffer { λ _. ⌜ now (out .exit) ≡ cutBuffer (chopBy Exact) level (conicOf (now (src .entry)) weight)
+    ensures buffer { λ _. ⌜ now (out .exit) ≡ cutBuffer chopByRule level (conicOf (now (src .entry)) weight Exact)
         (shortSource (now (src .entry))) (now (out .entry)) ⌝ }
-    ensures order { λ _. ⌜ (6 ≤ length (now (src .entry)) → OrderKept Exact level (conicOf (now (src .entry)) weight) (now (out .entry))
+    ensures order { λ _. ⌜ (6 ≤ length (now (src .entry)) → OrderAlong Y level (conicOf (now (src .entry)) weight Exact) (now (out .entry))
         (now (out .exit))) ⌝ }
 {
-    conic_cut::chop_into_quads_pow2_from(out, Rule::Exact, src, weight, level).number()
+    conic_cut::chop_into_quads_pow2_from(out, src, weight, Rule::Exact, level).number()
+}
+
+// The same, and the xs are kept in order as the ys are. From three finite points the xs along the written points keep one
+// direction where the middle x lies between the end xs or equals one, and so do the ys where the middle y does.
+#[no_mangle]
+pub extern "C" fn nz_cut_in_order_both(src: &[f32], weight: f32, level: u32, out: &mut [f32]) -> u32
+    ensures { λ r. ⌜ r ≡ refuseCut level (length (now (out .entry))) (shortSource (now (src .entry))) numberOfRefusal 0 ⌝ }
+    ensures buffer { λ _. ⌜ now (out .exit) ≡ cutBuffer chopByRule level (conicOf (now (src .entry)) weight BothAxes)
+        (shortSource (now (src .entry))) (now (out .entry)) ⌝ }
+    ensures order_x { λ _. ⌜ (6 ≤ length (now (src .entry)) → OrderAlong X level (conicOf (now (src .entry)) weight BothAxes) (now (out .entry))
+        (now (out .exit))) ⌝ }
+    ensures order_y { λ _. ⌜ (6 ≤ length (now (src .entry)) → OrderAlong Y level (conicOf (now (src .entry)) weight BothAxes) (now (out .entry))
+        (now (out .exit))) ⌝ }
+{
+    conic_cut::chop_into_quads_pow2_from(out, src, weight, Rule::BothAxes, level).number()
 }
 
 // Stores a cut and how many quads it has, if there is one; and the answer's number.
@@ -167,10 +183,10 @@ pub extern "C" fn nz_auto_conic_to_quads(
 ) -> u32
     ensures { λ r. ⌜ r ≡ numberOfCut (autoFrom (now (src .entry)) weight) ⌝ }
     ensures out { λ _. ⌜ now (out .exit) ≡ pointsOr (now (out .entry)) (autoFrom (now (src .entry)) weight)
-        (autoPoints (conicOf (now (src .entry)) weight)) ⌝ }
+        (autoPoints (conicOf (now (src .entry)) weight Product)) ⌝ }
     ensures quads { λ _. ⌜ now (quads .exit) ≡ firstOr (now (quads .entry)) (valuesOfCut (autoFrom (now (src .entry)) weight)) ⌝ }
 {
-    match Conic::from_points(src, weight) {
+    match Conic::from_points(src, weight, Rule::Product) {
         FromPoints::Made(c) => give_cut(
             AutoConicToQuads::compute(c.p0, c.p1, c.p2, c.weight),
             out,

@@ -15,6 +15,7 @@ fn given(k: u32, r: &[u8; 80], src: &[f32], out: &mut [f32]) -> u32 {
         13 => shapes::nz_chop_cubic_at2(src, t, out),
         17 => conics::nz_conic_chop_into_quads_pow2(src, weight, level, out),
         18 => conics::nz_cut_in_order(src, weight, level, out),
+        27 => conics::nz_cut_in_order_both(src, weight, level, out),
         _ => of_transforms::map_numbers(r, out),
     }
 }

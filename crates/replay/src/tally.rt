@@ -30,7 +30,7 @@ fn on_points(k: u32, r: &[u8; 80], src: &[f32]) -> Sum {
         14 => of_shapes::curvature(src),
         15 => of_conics::chop(r, src),
         16 => of_conics::compute_quad_pow2(r, src),
-        17 | 18 => of_buffers::quads(k, r, src),
+        17 | 18 | 27 => of_buffers::quads(k, r, src),
         19 => of_conics::auto_conic_to_quads(r, src),
         _ => of_buffers::mapped(k, r, src),
     }
@@ -47,7 +47,7 @@ fn replayed(k: u32, r: &[u8; 80]) -> Sum {
         0..=2 => of_ground::called(k, r),
         3..=6 => of_roots::called(k, r),
         20..=25 => of_transforms::called(k, r),
-        7..=19 | 26 => with_points(k, r),
+        7..=19 | 26 | 27 => with_points(k, r),
         _ => sum::START,
     }
 }

@@ -1,4 +1,4 @@
--- `chop_into_quads_pow2` meets its contract, the order of the ys with it: each answer by the tests that led to it. Assumes nothing.
+-- `chop_into_quads_pow2` meets its contract, the order with it: each answer by the tests that led to it. Assumes nothing.
 use mathlib.Core.Bool.{false}
 use mathlib.Core.Path.{_∙_, ap}
 use Prim.Native.Nat.{_≤_, _<_}
@@ -10,15 +10,15 @@ use lib.Pow.{pow-mono}
 use Rattle.conic_cut.specs.declared.Cut.the-variants.{Quads}
 use Rattle.conic_cut.specs.Cut.{room}
 use Rattle.conic_cut.proofs.Answers.{too-deep, too-short, cut-into, answer-cut, stored-cut, kept-order}
-use Rattle.conic.specs.Chop.{chopBy}
+use Rattle.conic.specs.Chop.{chopByRule}
 use Rattle.conic_cut.proofs.chop_into_quads_pow2.Statement.{statement}
 use Rattle.conic_cut.proofs.chop_into_quads_pow2.Tie as tie
 
 returns : tie.Need-returns
 returns c =
     let a = c .before .before .args in
-    let w = too-deep (chopBy (a .rule)) (a .level) (a .c) false (a .out .now) (c .if1 .taken) in
-    (w, kept-order (a .rule) (a .level) (a .c) (a .out .now) (a .out .now) (w .buffer))
+    let w = too-deep chopByRule (a .level) (a .c) false (a .out .now) (c .if1 .taken) in
+    (w, kept-order (a .level) (a .c) (a .out .now) (a .out .now) (w .buffer))
 
 quads-requires : tie.Need-quads-requires
 quads-requires c κs = search needs
@@ -33,9 +33,9 @@ returns-2 : tie.Need-returns-2
 returns-2 c =
     let a = c .before .before .before .before .args in
     let h : length (a .out .now) < room (a .level) = omega (arith, c .before .quads .ensures, c .if2 .taken) in
-    let w = too-short (chopBy (a .rule)) (a .level) (a .c) false (a .out .now) (c .before .before .if1 .left)
+    let w = too-short chopByRule (a .level) (a .c) false (a .out .now) (c .before .before .if1 .left)
     (rw (lt-ltb (length (a .out .now)) (room (a .level)) h)) in
-    (w, kept-order (a .rule) (a .level) (a .c) (a .out .now) (a .out .now) (w .buffer))
+    (w, kept-order (a .level) (a .c) (a .out .now) (a .out .now) (w .buffer))
 
 store-requires : tie.Need-store-requires
 store-requires c κs = search needs
@@ -49,9 +49,9 @@ returns-3 c =
     let q = c .before .before .before .before .before .quads in
     let low = c .before .before .before .before .before .before .if1 .left in
     let fits : room (a .level) ≤ length (a .out .now) = omega (arith, q .ensures, c .before .before .before .before .if2 .left) in
-    let done = c .before .before .store .ensures ∙ stored-cut (chopBy (a .rule)) (a .level) (a .c) (a .out .now) low fits in
-    let many = ap Quads (q .ensures) ∙ answer-cut (chopBy (a .rule)) (a .level) (a .c) (a .out .now) low fits in
-    (cut-into many done, kept-order (a .rule) (a .level) (a .c) (a .out .now) (c .before .before .store .last .0) done)
+    let done = c .before .before .store .ensures ∙ stored-cut chopByRule (a .level) (a .c) (a .out .now) low fits in
+    let many = ap Quads (q .ensures) ∙ answer-cut chopByRule (a .level) (a .c) (a .out .now) low fits in
+    (cut-into many done, kept-order (a .level) (a .c) (a .out .now) (c .before .before .store .last .0) done)
 
 pub chop-into-quads-pow2-spec : {M : Type 1} → statement M
 chop-into-quads-pow2-spec =

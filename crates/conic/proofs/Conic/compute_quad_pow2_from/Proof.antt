@@ -3,6 +3,7 @@ use mathlib.Core.Path.{sym, _∙_}
 use borrow.Author.Needs.{needs}
 use Rattle.conic.proofs.Levels.{chosen}
 use Rattle.conic.proofs.Sources.{was-made, was-refused}
+use Rattle.conic.specs.declared.Rule.the-variants.{Product}
 use Rattle.conic.specs.Level.{levelAnswer}
 use Rattle.conic.proofs.Conic.compute_quad_pow2_from.Statement.{statement}
 use Rattle.conic.proofs.Conic.compute_quad_pow2_from.Tie as tie
@@ -22,7 +23,7 @@ returns-2 c =
     let s = c .before .before .before .before .before .before .before .before .args in
     let read = c .before .before .before .before .from-points .ensures .answer in
     let known = c .before .before .c .given in
-    let told = was-made (s .src .now) (s .weight) (known .0 .0) (sym read ∙ known .1) in
+    let told = was-made (s .src .now) (s .weight) Product (known .0 .0) (sym read ∙ known .1) in
     let done = c .compute-quad-pow2 .ensures .answer in
     chosen (cc)
 
@@ -32,7 +33,7 @@ returns-3 c =
     let s = c .before .before .before .before .before .before .before .args in
     let read = c .before .before .before .from-points .ensures .answer in
     let known = c .before .r .given in
-    let told = was-refused (s .src .now) (s .weight) (known .0 .0) (sym read ∙ known .1) in
+    let told = was-refused (s .src .now) (s .weight) Product (known .0 .0) (sym read ∙ known .1) in
     chosen (rw (told .0, told .1, ← c .before .before .before .before .before .is-bad .ensures, c .before .before .before .before .if1 .left))
 
 pub compute-quad-pow2-from-spec : {M : Type 1} → statement M

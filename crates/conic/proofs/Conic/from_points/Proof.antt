@@ -10,23 +10,23 @@ returns : tie.Need-returns
 unfolding sourceAnswer
 returns c = taken (simp (lt-ltb _ _ (c .if1 .taken)))
 
-shared-slice-read-t10 : tie.Need-shared-slice-read-t10
-shared-slice-read-t10 c = search needs
+shared-slice-read-t11 : tie.Need-shared-slice-read-t11
+shared-slice-read-t11 c = search needs
 
-shared-slice-read-t12 : tie.Need-shared-slice-read-t12
-shared-slice-read-t12 c = search needs
+shared-slice-read-t13 : tie.Need-shared-slice-read-t13
+shared-slice-read-t13 c = search needs
 
-shared-slice-read-t10-2 : tie.Need-shared-slice-read-t10-2
-shared-slice-read-t10-2 c = search needs
+shared-slice-read-t11-2 : tie.Need-shared-slice-read-t11-2
+shared-slice-read-t11-2 c = search needs
 
-shared-slice-read-t12-2 : tie.Need-shared-slice-read-t12-2
-shared-slice-read-t12-2 c = search needs
+shared-slice-read-t13-2 : tie.Need-shared-slice-read-t13-2
+shared-slice-read-t13-2 c = search needs
 
-shared-slice-read-t10-3 : tie.Need-shared-slice-read-t10-3
-shared-slice-read-t10-3 c = search needs
+shared-slice-read-t11-3 : tie.Need-shared-slice-read-t11-3
+shared-slice-read-t11-3 c = search needs
 
-shared-slice-read-t12-3 : tie.Need-shared-slice-read-t12-3
-shared-slice-read-t12-3 c = search needs
+shared-slice-read-t13-3 : tie.Need-shared-slice-read-t13-3
+shared-slice-read-t13-3 c = search needs
 
 returns-2 : tie.Need-returns-2
 unfolding sourceAnswer conicOf
@@ -37,10 +37,10 @@ from-points-spec =
     tie.close
     (tie.spec
     returns
-    shared-slice-read-t10
-    shared-slice-read-t12
-    shared-slice-read-t10-2
-    shared-slice-read-t12-2
-    shared-slice-read-t10-3
-    shared-slice-read-t12-3
+    shared-slice-read-t11
+    shared-slice-read-t13
+    shared-slice-read-t11-2
+    shared-slice-read-t13-2
+    shared-slice-read-t11-3
+    shared-slice-read-t13-3
     returns-2)

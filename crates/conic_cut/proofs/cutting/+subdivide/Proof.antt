@@ -6,7 +6,7 @@ use native.Mathlib.Nat.{pos-of-ne-zero}
 use native.Mathlib.Omega.{arith}
 use borrow.Fn.Kinds.{In}
 use borrow.Fn.PlainCycle.{Measures, is, falls, and}
-use Rattle.conic.specs.Chop.{chopBy}
+use Rattle.conic.specs.Chop.{chopByRule}
 use Rattle.conic.proofs.depth.Depth.chop.Reads as chop-reads
 use Rattle.conic_cut.proofs.Ladder.{rung, Halved, chop-rung}
 use Rattle.conic_cut.proofs.Stores.{pow-zero, pow-more, stored-zero, stored-more}
@@ -19,7 +19,7 @@ use Rattle.conic_cut.proofs.cutting.+subdivide.Tie.{close}
 
 -- the level
 abbrev μ-subdivide : Measures 2 subdivide-kinds.ps ℕ
-μ-subdivide κs a = a .1 .1 .1 .1 .1 .0
+μ-subdivide κs a = a .1 .1 .1 .1 .0
 
 abbrev subdivide-at : ℕ → In 2 subdivide-kinds.ps
 subdivide-at t = and 2 subdivide-kinds.ps (is 2 subdivide-kinds.ps μ-subdivide t) subdivide.Pre
@@ -46,7 +46,7 @@ module _ (t : ℕ) where
   returns c =
       let a = c .before .before .before .before .before .before .args in
       let stored = c .before .before .put-quad in
-      stored-zero (chopBy (a .rule)) (a .level) (a .c) (a .out .now) (stored .last .0) (a .at) (stored .result)
+      stored-zero chopByRule (a .level) (a .c) (a .out .now) (stored .last .0) (a .at) (stored .result)
       (c .before .before .before .before .if1 .taken) (stored .ensures)
 
   sub-less : subdivide-lts.Need-sub-less (calls t) (subdivide-at t) subdivide.Post
@@ -78,12 +78,12 @@ module _ (t : ℕ) where
 
   -- what the chop gave is cut further as the rule's own halves are
   halved : (h : subdivide-lts.After-chop (calls t) (subdivide-at t) subdivide.Post) → let a = h .before .before .before .before .before .args in
-      Halved (a .rule) (a .level - 1) (a .rungs .now) (a .c) (h .chop .result)
+      Halved (a .level - 1) (a .rungs .now) (a .c) (h .chop .result)
   halved h =
       let s = h .before .before .before .before .before in
       let a = s .args in
       let r = rung (a .level) (a .rungs .now) (a .c .weight) (h .before .before .before .if1 .left) (s .pre .1 .1 .1) in
-      chop-rung (a .rule) (a .level - 1) (a .rungs .now) (a .c) _ (h .chop .result) (r .0) (r .1 .0) (r .1 .1) (h .chop .ensures)
+      chop-rung (a .level - 1) (a .rungs .now) (a .c) _ (h .chop .result) (r .0) (r .1 .0) (r .1 .1) (h .chop .ensures)
 
   subdivide-requires : subdivide-lts.Need-subdivide-requires (calls t) (subdivide-at t) subdivide.Post
   subdivide-requires c κs =
@@ -117,7 +117,7 @@ module _ (t : ℕ) where
       let same = halved chopped in
       let first = c .before .before .before .before .before .before .subdivide in
       let second = c .before .before .subdivide2 in
-      stored-more (chopBy (a .rule)) (a .level) (a .c) (h .first) (h .second) (a .out .now) (first .last .0) (second .last .0) (a .at)
+      stored-more chopByRule (a .level) (a .c) (h .first) (h .second) (a .out .now) (first .last .0) (second .last .0) (a .at)
       (first .result) (second .result) (chopped .before .before .before .if1 .left) (same .first) (same .second) (first .ensures) (second .ensures)
 
 pub +subdivide-spec : {M : Type 1} → statement M

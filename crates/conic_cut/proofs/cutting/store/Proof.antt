@@ -5,7 +5,7 @@ use borrow.Author.Needs.{needs}
 use lib.Seq.{sets}
 use Rattle.point.specs.declared.Point.{Point}
 use Rattle.point.specs.Numbers.{flat}
-use Rattle.conic.specs.Chop.{chopBy}
+use Rattle.conic.specs.Chop.{chopByRule}
 use Rattle.conic_cut.proofs.Order.{joined}
 use Rattle.conic_cut.proofs.Stores.{ends-pinned}
 use Rattle.conic_cut.proofs.cutting.store.Statement.{statement}
@@ -32,7 +32,7 @@ returns-2 c =
     let start = c .before .before .before .before .before .before .is-finite .ensures in
     let end = c .before .before .before .before .before .is-finite2 .ensures in
     let bad = rw (start, end) at (c .before .before .before .before .if1 .left) in
-    let pins = ends-pinned (chopBy (a .rule)) (joined (a .rule) .end) (a .level) (a .c) bad in
+    let pins = ends-pinned chopByRule (joined .end) (a .level) (a .c) bad in
     c .before .before .store-pinned .ensures ∙ ap (λ (ps : List Point). sets (a .out .now) 0 (flat ps)) pins
 
 pub store-spec : {M : Type 1} → statement M

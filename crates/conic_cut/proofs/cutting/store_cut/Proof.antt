@@ -7,7 +7,7 @@ use lib.ListN.{replicate, length-replicate}
 use lib.Ieee.{Float}
 use Prim.Native.Nat.{_*_}
 use Rattle.float_laws.specs.Formula.{zero32}
-use Rattle.conic.specs.Chop.{chopBy}
+use Rattle.conic.specs.Chop.{chopByRule}
 use Rattle.conic_cut.specs.Ladder.{deepest, Rungs}
 use Rattle.conic_cut.proofs.Ladder.{rungs-hold}
 use Rattle.conic_cut.proofs.Stores.{stored-fine, stored-pinned}
@@ -49,7 +49,7 @@ returns c =
     let put = c .before .before .before .before .before .before .before .before .before .before .before .put in
     let cut = c .before .before .before .before .before .before .subdivide in
     let test = c .before .all-finite in
-    stored-fine (chopBy (a .rule)) (a .level) (a .c) (a .out .now) (put .last .0) (cut .last .0) (put .result) (cut .result)
+    stored-fine chopByRule (a .level) (a .c) (a .out .now) (put .last .0) (cut .last .0) (put .result) (cut .result)
     (put .ensures) (cut .ensures) (s .pre .0) (test .result) (test .ensures) (c .if1 .taken)
 
 store-pinned-requires : tie.Need-store-pinned-requires
@@ -67,7 +67,7 @@ returns-2 c =
     let cut = tested .before .before .before .before .before .subdivide in
     let test = tested .all-finite in
     let pin = c .before .before .store-pinned in
-    stored-pinned (chopBy (a .rule)) (a .level) (a .c) (a .out .now) (put .last .0) (cut .last .0) (put .result) (cut .result)
+    stored-pinned chopByRule (a .level) (a .c) (a .out .now) (put .last .0) (cut .last .0) (put .result) (cut .result)
     (put .ensures) (cut .ensures) (s .pre .0) (pin .last .0) (test .result) (test .ensures) (c .before .before .before .before .if1 .left) (pin .ensures)
 
 pub store-cut-spec : {M : Type 1} → statement M

@@ -12,7 +12,7 @@ unfolding flat
 returns c =
     let made = c .before .before .before .before .before .before .from-points .ensures in
     let found = c .before .before .before .answer .given in
-    let told = was-made _ _ (found .0 .0) (sym (made .answer) ∙ found .1) in
+    let told = was-made _ _ _ (found .0 .0) (sym (made .answer) ∙ found .1) in
     (c .before .before .before .before .before .number .ensures ∙ made .number, rw (told .0, ← told .1) (c .give-halves .ensures))
 
 -- the source is short
@@ -20,7 +20,7 @@ returns-2 : tie.Need-returns-2
 returns-2 c =
     let made = c .before .before .before .from-points .ensures in
     let found = c .enum-told .given in
-    let told = was-refused _ _ (found .0 .0) (sym (made .answer) ∙ found .1) in
+    let told = was-refused _ _ _ (found .0 .0) (sym (made .answer) ∙ found .1) in
     (c .before .before .number .ensures ∙ made .number, rw (told .0) refl)
 
 pub nz-conic-chop-spec : {M : Type 1} → statement M
