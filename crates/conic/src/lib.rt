@@ -156,13 +156,7 @@ impl Conic {
             x: src[4],
             y: src[5],
         };
-        FromPoints::Made(Conic {
-            p0,
-            p1,
-            p2,
-            weight,
-            rule,
-        })
+        FromPoints::Made(Conic::new(p0, p1, p2, weight, rule))
     }
 
     // Both halves, as the formulas give them, with the conic's rule.

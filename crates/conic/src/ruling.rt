@@ -13,17 +13,6 @@ pub enum Test {
     Exact,
 }
 
-// The rule's test along x.
-pub fn along_x(rule: Rule) -> Test
-    ensures { λ r. ⌜ r ≡ testAlong X rule ⌝ }
-{
-    match rule {
-        Rule::Product => Test::Never,
-        Rule::Exact => Test::Never,
-        Rule::BothAxes => Test::Exact,
-    }
-}
-
 // The rule's test along y.
 pub fn along_y(rule: Rule) -> Test
     ensures { λ r. ⌜ r ≡ testAlong Y rule ⌝ }
@@ -32,6 +21,17 @@ pub fn along_y(rule: Rule) -> Test
         Rule::Product => Test::Product,
         Rule::Exact => Test::Exact,
         Rule::BothAxes => Test::Exact,
+    }
+}
+
+// The rule's test along x: that along y, or none.
+pub fn along_x(rule: Rule) -> Test
+    ensures { λ r. ⌜ r ≡ testAlong X rule ⌝ }
+{
+    match rule {
+        Rule::Product => Test::Never,
+        Rule::Exact => Test::Never,
+        Rule::BothAxes => along_y(rule),
     }
 }
 

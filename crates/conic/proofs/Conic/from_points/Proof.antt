@@ -30,7 +30,7 @@ shared-slice-read-t13-3 c = search needs
 
 returns-2 : tie.Need-returns-2
 unfolding sourceAnswer conicOf
-returns-2 c = taken (simp (le-ltb _ _ (c .before .before .before .before .before .before .if1 .left)))
+returns-2 c = taken (simp (c .new .ensures, le-ltb _ _ (c .before .before .before .before .before .before .before .if1 .left)))
 
 pub from-points-spec : {M : Type 1} → statement M
 from-points-spec =
@@ -43,4 +43,5 @@ from-points-spec =
     shared-slice-read-t13-2
     shared-slice-read-t11-3
     shared-slice-read-t13-3
+    (λ c κs. tt)
     returns-2)

@@ -24,7 +24,7 @@ returns-2 c = rw (c .enum-told2 .given .1) refl
 
 returns-3 : tie.Need-returns-3
 unfolding testAlong
-returns-3 c = rw (c .enum-told3 .given .1) refl
+returns-3 c = rw (c .along-y .ensures, c .before .enum-told3 .given .1) refl
 
 pub along-x-spec : {M : Type 1} → statement M
-along-x-spec = tie.close (tie.spec enum-told enum-told-2 enum-told-3 returns returns-2 returns-3)
+along-x-spec = tie.close (tie.spec enum-told enum-told-2 enum-told-3 (λ c κs. tt) returns returns-2 returns-3)
