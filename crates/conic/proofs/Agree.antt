@@ -4,12 +4,11 @@ use mathlib.Core.Bool.{Bool, true, false, cond}
 use lib.Dec.{T}
 use lib.Ieee.{Float}
 use Rattle.conic.specs.declared.Conic.{Conic}
-use Rattle.conic.specs.declared.Halves.{Halves}
 use Rattle.conic.specs.declared.Rule.{Rule}
 use Rattle.conic.specs.declared.chopping.Line.{Line}
 use Rattle.conic.specs.declared.chopping.Lines.{Lines}
 use Rattle.conic.specs.declared.ruling.Test.{Test}
-use Rattle.conic.specs.Agree.{withRule, LineAlike, AxisAlike, ChopAlike}
+use Rattle.conic.specs.Agree.{withRule, withRules, LineAlike, AxisAlike, ChopAlike}
 use Rattle.conic.specs.Between.{passes}
 use Rattle.conic.specs.Chop.{linesAt, linesOf, weightOf, halvesAt, mendedLines, chopAt, chopByRule}
 use Rattle.conic.specs.Mend.{orderedOf, mendedOf}
@@ -30,10 +29,6 @@ same-mended s t a b c l h =
 
 both-lines : (l m : Lines) → l .x ≡ m .x → l .y ≡ m .y → l ≡ m
 both-lines l m p q = rw (p, q) refl
-
--- the halves, each with the other rule
-abbrev pub withRules : Rule → Halves → Halves
-withRules v h = record { first = withRule v (h .first); second = withRule v (h .second) }
 
 pub same-halves : (v : Rule) (c : Conic) → ChopAlike v c → chopByRule (withRule v c) ≡ withRules v (chopByRule c)
 unfolding chopAt chopByRule halvesAt linesAt

@@ -1,4 +1,5 @@
 pub mod Agree
+pub mod AnyRule
 pub mod Levels
 pub mod Sources
 pub mod Unique

@@ -4,6 +4,7 @@ use mathlib.Core.Path.{_≡_}
 use lib.Dec.{T}
 use lib.Ieee.{Float}
 use Rattle.conic.specs.declared.Conic.{Conic}
+use Rattle.conic.specs.declared.Halves.{Halves}
 use Rattle.conic.specs.declared.Rule.{Rule}
 use Rattle.conic.specs.declared.chopping.Line.{Line}
 use Rattle.conic.specs.declared.ruling.Test.{Test}
@@ -15,6 +16,9 @@ use Rattle.conic.specs.Rule.{Axis, testAlong}
 -- the conic with another rule, and nothing else changed
 abbrev pub withRule : Rule → Conic → Conic
 withRule v c = conicFrom (c .p0) (c .p1) (c .p2) (c .weight) v
+
+abbrev pub withRules : Rule → Halves → Halves
+withRules v h = record { first = withRule v (h .first); second = withRule v (h .second) }
 
 abbrev pub Alike : Test → Test → Float → Float → Float → Type 0
 Alike s t a b c = passes s a b c ≡ passes t a b c

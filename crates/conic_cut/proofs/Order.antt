@@ -14,8 +14,9 @@ use Rattle.point.specs.declared.Point.{Point}
 use Rattle.point.specs.Point.{pointFinite}
 use Rattle.conic.specs.declared.Conic.{Conic}
 use Rattle.conic.specs.declared.Halves.{Halves}
+use Rattle.conic.specs.declared.Rule.the-variants.{BothAxes}
 use Rattle.conic.specs.Chop.{along, halvesAt, chopAt, chopByRule}
-use Rattle.conic.specs.Rule.{Axis, X, Y}
+use Rattle.conic.specs.Rule.{Axis, X, Y, testAlong}
 use Rattle.conic.proofs.Ways.{Way, Runs, up-way, down-way, PutsInOrder, halves-run, halves-rule}
 use Rattle.conic_cut.specs.Cut.{cutPoints, allFinite, plain, pinned, written}
 use Rattle.conic_cut.specs.Order.{Steps, OneWay, FiniteCoordinates, AllFiniteCoordinates, firstOf, lastOf, Premise, InOrder}
@@ -122,3 +123,9 @@ cut-in-order k n c o g =
     (λ t. (passed-finite (plain chopByRule n c) t, refl, cut-last chopByRule (joined .end) n c (c .p0)))
     ((g .start, pinned-finite (c .p1) (c .p2) m (g .middle) (g .end)), refl, last-is (c .p0) (c .p2) (replicate m (c .p1))) in
     record { one-way = one-way k n c o g; all-finite = rest .0; first = rest .1; last = rest .2 }
+
+-- by the rule of both axes neither turns back
+pub both-in-order : (n : ℕ) (c : Conic) → c .rule ≡ BothAxes → Premise X c → Premise Y c
+    → InOrder X c (written chopByRule n c) × InOrder Y c (written chopByRule n c)
+unfolding testAlong
+both-in-order n c e gx gy = (cut-in-order X n c (ap (testAlong X) e) gx, cut-in-order Y n c (ap (testAlong Y) e) gy)
