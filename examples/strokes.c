@@ -16,36 +16,35 @@ static float date(const float *points, nz_len quads, float recorded) {
     return y < low ? low : y > high ? high : y;
 }
 
-// Whether the xs of the quads' ends never fall: the library's promise is on the ys, and strokes are looked up by x.
-static bool forward(const float *points, nz_len quads) {
-    for (nz_len k = 0; k < quads; k++)
-        if (!(points[4 * k] <= points[4 * k + 4])) return false;
-    return true;
+// Whether the cut of a bridge is promised to run forward in recorded time, by which strokes are looked up, and to keep one
+// direction in corrected time.
+static bool promised(const float *bridge) {
+    for (int k = 0; k < 6; k++)
+        if (!nz_is_finite_f32(bridge[k])) return false;
+    return bridge[0] <= bridge[4] && nz_between_exact(bridge[0], bridge[2], bridge[4]) && nz_between_exact(bridge[1], bridge[3], bridge[5]);
 }
 
 int main(void) {
     // from (1000, 1000) to (2000, 2400) milliseconds since the session began: recorded across, corrected up
     const float bridge[6] = {1000, 1000, 1500, 1100, 2000, 2400};
     float points[NZ_CUT_ROOM(NZ_MAX_LEVEL)];
-    // there is a promise on the order of a cut only where these hold
-    for (int k = 0; k < 6; k++)
-        if (!nz_is_finite_f32(bridge[k])) return 1;
-    if (!nz_between_exact(bridge[1], bridge[3], bridge[5])) return 1;
-    uint32_t answer = nz_cut_in_order(bridge, 6, 0.75f, 2, points, NZ_CUT_ROOM(2));
+    if (!promised(bridge)) return 1;
+    uint32_t answer = nz_cut_in_order_both(bridge, 6, 0.75f, 2, points, NZ_CUT_ROOM(2));
     printf("cut at level 2: answer %u\n", answer);
-    if (answer != NZ_OK || !forward(points, 4)) return 1;
+    if (answer != NZ_OK) return 1;
     for (int k = 0; k < 9; k++) printf("  %.3f %.3f\n", points[2 * k], points[2 * k + 1]);
     for (float t = 1000; t <= 2000; t += 250) printf("stroke recorded at %.0f: %.3f\n", t, date(points, 4, t));
 
     // an end that rounding would pass: 289.78162 + (2438.7522 - 289.78162) * 1 is above 2438.7522
     const float steep[6] = {0, 289.78162f, 1, 1000, 2, 2438.7522f};
-    answer = nz_cut_in_order(steep, 6, 1, 0, points, NZ_CUT_ROOM(0));
+    if (!promised(steep)) return 1;
+    answer = nz_cut_in_order_both(steep, 6, 1, 0, points, NZ_CUT_ROOM(0));
     if (answer != NZ_OK) return 1;
     printf("the last stroke of a bridge that ends at 2438.7522: %.4f\n", date(points, 1, 2));
 
-    answer = nz_cut_in_order(bridge, 6, 1, 1, points, 9);
+    answer = nz_cut_in_order_both(bridge, 6, 1, 1, points, 9);
     printf("nine numbers of room at level 1: answer %u\n", answer);
-    answer = nz_cut_in_order(bridge, 6, 1, 5, points, NZ_CUT_ROOM(NZ_MAX_LEVEL));
+    answer = nz_cut_in_order_both(bridge, 6, 1, 5, points, NZ_CUT_ROOM(NZ_MAX_LEVEL));
     printf("level 5: answer %u\n", answer);
 
     uint32_t level = 0;

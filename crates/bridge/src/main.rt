@@ -1,5 +1,5 @@
-// Reads bridges from standard input, one a line, cuts each by the exact rule and prints the points of its quads, with a
-// note where they turn back or may.
+// Reads bridges from standard input, one a line, cuts each by the rule of both axes and prints the points of its quads, with
+// a note where they may turn back.
 mod answer;
 mod lines;
 

@@ -91,7 +91,7 @@ mendedLine k c l = mendedOf (testAlong k (c .rule)) (along k (c .p0)) (along k (
 abbrev pub mendedLines : Conic → Lines → Lines
 mendedLines c l = record { x = mendedLine X c (l .x); y = mendedLine Y c (l .y) }
 
--- both lines are left as they are
+-- a line is left as it is, and both are
 abbrev pub staysLine : Axis → Conic → Line → Bool
 staysLine k c l = staysOf (testAlong k (c .rule)) (along k (c .p0)) (along k (c .p1)) (along k (c .p2)) l
 

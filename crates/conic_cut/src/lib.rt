@@ -1,6 +1,6 @@
-// Conics cut into quads. By the exact rule, where the three points are finite and the middle y lies between the end ys or
-// equals one of them, the ys along the written points only rise or only fall: the clause `order` of the contracts. Nothing
-// is said of the xs.
+// Conics cut into quads. Where the three points are finite, the written points only rise or only fall along each axis that
+// the conic's rule puts in order by the exact test, if its middle lies between its ends there or equals one of them: the
+// clause `order` of the contracts. That is y by the exact rule, and x and y by the rule of both axes.
 // Carried over from `path_geometry.rs` of tiny-skia-path 0.12.0; the rule, and an answer for each refusal, are added.
 ghost use mathlib.Core.Path.{_≡_};
 ghost use mathlib.Core.Bool.{false};
