@@ -1,4 +1,5 @@
 // How deep a cut goes into the stack: it is called on a stack of its own, painted before, and what lost its paint is counted.
+#include <math.h>
 #include <pthread.h>
 #include <stdio.h>
 #include <stdlib.h>
@@ -9,6 +10,8 @@
 enum { ROOM = 1 << 18, PAINT = 0xa5 };
 
 static const float bridge[6] = {1000, 1000, 1500, 1100, 2000, 2400};
+// by the second chops are corrected, by the last computed again through f64 too, and both take further calls
+static const float weights[3] = {0.75f, -0.5f, NAN};
 static float out[NZ_CUT_ROOM(NZ_MAX_LEVEL)];
 static float places[128];
 static nz_len quads;
@@ -16,13 +19,13 @@ static unsigned char *frame; // of the function that calls
 
 static void *in_order(void *p) {
     frame = __builtin_frame_address(0);
-    nz_cut_in_order(bridge, 6, 0.75f, NZ_MAX_LEVEL, out, NZ_CUT_ROOM(NZ_MAX_LEVEL));
+    for (int k = 0; k < 3; k++) nz_cut_in_order_both(bridge, 6, weights[k], NZ_MAX_LEVEL, out, NZ_CUT_ROOM(NZ_MAX_LEVEL));
     return p;
 }
 
 static void *automatic(void *p) {
     frame = __builtin_frame_address(0);
-    nz_auto_conic_to_quads(bridge, 6, 0.75f, places, &quads);
+    for (int k = 0; k < 3; k++) nz_auto_conic_to_quads(bridge, 6, weights[k], places, &quads);
     return p;
 }
 
@@ -42,7 +45,7 @@ static size_t deep(void *(*call)(void *)) {
 }
 
 int main(void) {
-    printf("stack of nz_cut_in_order at level 4: %zu bytes\n", deep(in_order));
+    printf("stack of nz_cut_in_order_both at level 4: %zu bytes\n", deep(in_order));
     printf("stack of nz_auto_conic_to_quads: %zu bytes\n", deep(automatic));
     return 0;
 }
