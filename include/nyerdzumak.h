@@ -1,5 +1,5 @@
-/* Nyerdzumak: conics cut into quads whose ys keep one direction (nz_cut_in_order says of which conics), and the float
- * geometry below. For C99 or newer, and C++.
+/* Nyerdzumak: conics cut into quads whose points keep one direction along both axes (nz_cut_in_order_both says of which
+ * conics), and the float geometry below. For C99 or newer, and C++.
  *
  * ANSWERS. Every call ends, on any bits, and reads and writes what is said here and nothing else. A call that can refuse
  * returns one of the numbers below, NZ_OK or why it did nothing; of several that apply the first in this order is given:
@@ -73,15 +73,20 @@ extern "C" {
  *   Answers NZ_OK, NZ_LEVEL_TOO_HIGH or NZ_BUFFER_TOO_SHORT. */
 uint32_t nz_cut_in_order(const float *NZ_RESTRICT src, nz_len src_len, float weight, uint32_t level, float *NZ_RESTRICT out, nz_len out_len);
 
-/* The same, pinning too, with the xs put in order as the ys are: the cut for a table that is looked up by x.
- *   The promise. From three points of finite coordinates, whatever the weight, all that is promised above of the ys is
- * promised of each axis whose middle lies between its ends or equals one of them: of the ys, of the xs, or of both. Test the
- * middle y and the middle x with nz_between_exact; an axis that fails is cut all the same, can turn back, and takes nothing
- * from the other. The same answers. */
+/* As nz_cut_in_order, with the xs put in order as the ys are: the cut for a table that is looked up by x.
+ *   The promise. From three points of finite coordinates, whatever the weight: if along one axis the middle lies between the
+ * ends or equals one of them, all written coordinates are finite, the first and the last point are the conic's own, and along
+ * that axis the points keep one direction, rising or falling, ties allowed (falling where the last is below the first: test
+ * x0 <= x2 if a table is to run forward). If that is so along both axes, both keep theirs. Test each coordinate with
+ * nz_is_finite_f32 and the middle x and the middle y with nz_between_exact; an axis that fails can turn back, the other keeps
+ * its promise, and the answer is NZ_OK all the same.
+ *   Pinning, and the answers, are those of nz_cut_in_order. Which points are pinned can differ, since it hangs on x * y, and
+ * then the ys do: by a NaN weight nz_cut_in_order leaves NaN xs and is pinned, and this call is not. */
 uint32_t nz_cut_in_order_both(const float *NZ_RESTRICT src, nz_len src_len, float weight, uint32_t level, float *NZ_RESTRICT out, nz_len out_len);
 
-/* The same, pinning too, by the test of tiny-skia-path, on a product, which may overflow or underflow: there is no promise
- * on its order, and some bridges that fulfil the condition above turn back. The same answers. */
+/* As nz_cut_in_order, of the ys alone, by the test of tiny-skia-path, on a product, which may overflow or underflow: there
+ * is no promise on its order, and some bridges that fulfil the condition of nz_cut_in_order turn back. The same pinning and
+ * answers. */
 uint32_t nz_conic_chop_into_quads_pow2(const float *NZ_RESTRICT src, nz_len src_len, float weight, uint32_t level, float *NZ_RESTRICT out, nz_len out_len);
 
 /* The least level, from 1 on, at which an estimate of the quads' distance from the conic is within the tolerance; 4 at most,

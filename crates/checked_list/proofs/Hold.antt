@@ -23,7 +23,7 @@ Computed (root f x r) = T (fits f (ofBits f x)) × (ofBits f r ≡ rootOf f (ofB
 Computed (narrowed x r) = Holds (narrowed x r)
 Computed (absolute x r) = Holds (absolute x r)
 Computed (roots a b c l) = Holds (roots a b c l)
-Computed (between u a b c answer) = Holds (between u a b c answer)
+Computed (between t a b c answer) = Holds (between t a b c answer)
 Computed (cut u w n quads whole l) = Holds (cut u w n quads whole l)
 Computed (refused n len number) = Holds (refused n len number)
 
@@ -36,7 +36,7 @@ holds (root f x r) h = both f (ofBits f x) (ofBits f r) (h .0) (h .1) .1
 holds (narrowed x r) h = h
 holds (absolute x r) h = h
 holds (roots a b c l) h = h
-holds (between u a b c answer) h = h
+holds (between t a b c answer) h = h
 holds (cut u w n quads whole l) h = h
 holds (refused n len number) h = h
 

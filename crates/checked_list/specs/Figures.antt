@@ -13,8 +13,10 @@ use Rattle.quad_roots.specs.Roots.{rootsOf, valuesOfRoots}
 use Rattle.conic.specs.declared.Conic.{Conic}
 use Rattle.conic.specs.declared.Rule.{Rule}
 use Rattle.conic.specs.declared.Rule.the-variants.{Product, Exact, BothAxes}
+use Rattle.conic.specs.declared.ruling.Test.{Test}
+use Rattle.conic.specs.declared.ruling.Test.the-variants as By
+use Rattle.conic.specs.Between.{passes}
 use Rattle.conic.specs.Chop.{conicFrom, chopByRule}
-use Rattle.conic.specs.Rule.{test}
 use Rattle.conic_cut.specs.declared.Cut.the-variants.{Quads}
 use Rattle.point.specs.Numbers.{flat}
 use Rattle.conic_cut.specs.Cut.{allFinite, plain, written, room, cutAnswer, numberOfCut}
@@ -28,8 +30,8 @@ pub data Figure : Type 0 where
   absolute : ℕ → ℕ → Figure
   -- a, b and c, and the roots of a·t² + b·t + c strictly between 0 and 1
   roots : ℕ → ℕ → ℕ → List ℕ → Figure
-  -- whether the rule's test finds the second number between the others
-  between : Rule → ℕ → ℕ → ℕ → Bool → Figure
+  -- whether the test finds the second number between the others
+  between : Test → ℕ → ℕ → ℕ → Bool → Figure
   -- the conic below, of a weight, cut by the rule at a level: how many quads, whether no point is pinned, and the numbers of the points
   cut : Rule → ℕ → ℕ → ℕ → Bool → List ℕ → Figure
   -- a level, how many numbers there is room for, and the number of the refusal in docs/RULES.md, "Answer numbers"
@@ -52,7 +54,7 @@ Holds (root f x r) = Root f (ofBits f x) (ofBits f r)
 Holds (narrowed x r) = toBits binary32 (narrowOf (ofBits binary64 x)) ≡ r
 Holds (absolute x r) = toBits binary32 (absOf (ofBits binary32 x)) ≡ r
 Holds (roots a b c l) = bits (valuesOfRoots (rootsOf (ofBits binary32 a) (ofBits binary32 b) (ofBits binary32 c))) ≡ l
-Holds (between u a b c answer) = test u (ofBits binary32 a) (ofBits binary32 b) (ofBits binary32 c) ≡ answer
+Holds (between t a b c answer) = passes t (ofBits binary32 a) (ofBits binary32 b) (ofBits binary32 c) ≡ answer
 Holds (cut u w n quads whole l) =
     (cutAnswer n (room n) false ≡ Quads quads)
     × ((allFinite (plain chopByRule n (corner w u)) ≡ whole) × (bits (flat (written chopByRule n (corner w u))) ≡ l))
@@ -86,10 +88,10 @@ figures =
     ∷ roots 0x3f80_0000 0 0x3f80_0000 []
     ∷ roots 0 0 0x3f80_0000 []
     -- (0, 2^-100, 0) and (-2^127, 2^127, 2^127)
-    ∷ between Product 0 0x0d80_0000 0 true
-    ∷ between Exact 0 0x0d80_0000 0 false
-    ∷ between Product 0xff00_0000 0x7f00_0000 0x7f00_0000 false
-    ∷ between Exact 0xff00_0000 0x7f00_0000 0x7f00_0000 true
+    ∷ between By.Product 0 0x0d80_0000 0 true
+    ∷ between By.Exact 0 0x0d80_0000 0 false
+    ∷ between By.Product 0xff00_0000 0x7f00_0000 0x7f00_0000 false
+    ∷ between By.Exact 0xff00_0000 0x7f00_0000 0x7f00_0000 true
     -- weight 1: at level 0 the three points; at level 1 (0,0), (2,0), (3,1), (4,2), (4,4)
     ∷ cut Product 0x3f80_0000 0 1 true (0 ∷ 0 ∷ 0x4080_0000 ∷ 0 ∷ 0x4080_0000 ∷ 0x4080_0000 ∷ [])
     ∷ cut Exact 0x3f80_0000 0 1 true (0 ∷ 0 ∷ 0x4080_0000 ∷ 0 ∷ 0x4080_0000 ∷ 0x4080_0000 ∷ [])

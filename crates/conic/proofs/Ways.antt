@@ -1,7 +1,7 @@
 -- A chop keeps order along an axis that the conic's rule puts in order by the exact test, once for both axes and both directions:
 -- from a conic that runs one way it makes two that run the same way. The formulas of the chop don't enter: what is not in
 -- order is moved. Assumes nothing.
-use mathlib.Core.Path.{_≡_, refl, _∙_}
+use mathlib.Core.Path.{_≡_, refl, ap, _∙_}
 use mathlib.Core.Logic.{_⊎_, inl, inr, ⊎-elim}
 use mathlib.Core.Bool.{Bool, true, false, cond, _&&_}
 use lib.Dec.{T}
@@ -15,7 +15,7 @@ use Rattle.conic.specs.declared.Conic.{Conic}
 use Rattle.conic.specs.declared.chopping.Line.{Line}
 use Rattle.conic.specs.declared.chopping.Lines.{Lines}
 use Rattle.conic.specs.declared.ruling.Test.{Test}
-use Rattle.conic.specs.declared.ruling.Test.the-variants.{Exact}
+use Rattle.conic.specs.declared.ruling.Test.the-variants as By
 use Rattle.conic.specs.Between.{passes, exactTest}
 use Rattle.conic.specs.Chop.{along, on, weightOf, linesOf, halvesAt, mendedLine, mendedLines, chopAt, chopByRule}
 use Rattle.conic.specs.Mend.{nearerOf, orderedOf, mendedOf}
@@ -55,7 +55,7 @@ down-way = record {
 
 -- ---- an axis that the conic's rule puts in order by the exact test
 abbrev pub PutsInOrder : Axis → Conic → Type 0
-PutsInOrder k c = testAlong k (c .rule) ≡ Exact
+PutsInOrder k c = testAlong k (c .rule) ≡ By.Exact
 
 true-of : (b : Bool) → T b → b ≡ true
 true-of true t = refl
@@ -65,12 +65,12 @@ mended-on X c l = refl
 mended-on Y c l = refl
 
 -- a line is mended into the ordered one where the conic's middle passes
-exact-ordered : (t : Test) (a b c : Float) (l : Line) → t ≡ Exact → T (exactTest a b c) → mendedOf t a b c l ≡ orderedOf Exact a c l
+exact-ordered : (t : Test) (a b c : Float) (l : Line) → t ≡ By.Exact → T (exactTest a b c) → mendedOf t a b c l ≡ orderedOf By.Exact a c l
 unfolding mendedOf passes
 exact-ordered t a b c l e h = rw (e, true-of (exactTest a b c) h)
 
 is-ordered : (k : Axis) (c : Conic) (l : Lines) → PutsInOrder k c → T (exactTest (along k (c .p0)) (along k (c .p1)) (along k (c .p2)))
-    → on k (mendedLines c l) ≡ orderedOf Exact (along k (c .p0)) (along k (c .p2)) (on k l)
+    → on k (mendedLines c l) ≡ orderedOf By.Exact (along k (c .p0)) (along k (c .p2)) (on k l)
 is-ordered k c l o t =
     mended-on k c l ∙ exact-ordered (testAlong k (c .rule)) (along k (c .p0)) (along k (c .p1)) (along k (c .p2)) (on k l) o t
 
@@ -108,10 +108,10 @@ module _ (W : Way) where
 
   -- both halves of an ordered line
   line-runs : (a c : Float) (l : Line) → T (finite a) → T (finite c) → R a c
-      → Run a (orderedOf Exact a c l .left) (orderedOf Exact a c l .middle) × Run (orderedOf Exact a c l .middle) (orderedOf Exact a c l .right) c
+      → Run a (orderedOf By.Exact a c l .left) (orderedOf By.Exact a c l .middle) × Run (orderedOf By.Exact a c l .middle) (orderedOf By.Exact a c l .right) c
   unfolding orderedOf passes
   line-runs a c l p q h =
-      let m = orderedOf Exact a c l .middle in
+      let m = orderedOf By.Exact a c l .middle in
       let mid : Within a c m = kept-within a (l .middle) c (nearerOf a (l .middle) c) h (nearer-within a (l .middle) c p q h) in
       let left = kept-within a (l .left) m a (mid .0) (W .self a p, mid .0) in
       let right = kept-within m (l .right) c c (mid .1) (mid .1, W .self c q) in
@@ -139,6 +139,9 @@ module _ (W : Way) where
       halves-of k (weightOf (c .weight)) c (mendedLines c l) (rw same (runs .0)) (rw same (runs .1))
 
 -- both halves have the conic's rule
-pub halves-rule : (k : Axis) (c : Conic) → PutsInOrder k c → PutsInOrder k (chopByRule c .first) × PutsInOrder k (chopByRule c .second)
+pub halves-rule : (c : Conic) → (chopByRule c .first .rule ≡ c .rule) × (chopByRule c .second .rule ≡ c .rule)
 unfolding chopAt chopByRule halvesAt
-halves-rule k c o = (o, o)
+halves-rule c = (refl, refl)
+
+pub halves-ordered : (k : Axis) (c : Conic) → PutsInOrder k c → PutsInOrder k (chopByRule c .first) × PutsInOrder k (chopByRule c .second)
+halves-ordered k c o = (ap (testAlong k) (halves-rule c .0) ∙ o, ap (testAlong k) (halves-rule c .1) ∙ o)

@@ -37,7 +37,7 @@ either p false x l h e = refl
 either true true x l h e = h refl
 either false true x l h e = absurd (subst T (sym e) tt)
 
-stay : (t : Test) (a b c : Float) (l : Line) → staysOf t a b c l ≡ true → mendedOf t a b c l ≡ l
+pub stay : (t : Test) (a b c : Float) (l : Line) → staysOf t a b c l ≡ true → mendedOf t a b c l ≡ l
 unfolding mendedOf
 stay t a b c l e = either (inOrder t a c l) (passes t a b c) (orderedOf t a c l) l (ordered t a c l) e
 

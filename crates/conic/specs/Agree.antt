@@ -1,6 +1,8 @@
 -- Where the rules of two conics that differ in their rule alone answer every question of a chop alike (docs/RULES.md, "Conics").
 -- Definitions only.
 use mathlib.Core.Path.{_≡_}
+use mathlib.Core.Bool.{true}
+use mathlib.Core.Logic.{_⊎_}
 use lib.Dec.{T}
 use lib.Ieee.{Float}
 use Rattle.conic.specs.declared.Conic.{Conic}
@@ -10,7 +12,7 @@ use Rattle.conic.specs.declared.chopping.Line.{Line}
 use Rattle.conic.specs.declared.ruling.Test.{Test}
 use Rattle.conic.specs.Between.{passes}
 use Rattle.conic.specs.Chop.{conicFrom, along, on, linesOf}
-use Rattle.conic.specs.Mend.{middleOf}
+use Rattle.conic.specs.Mend.{middleOf, staysOf}
 use Rattle.conic.specs.Rule.{Axis, testAlong}
 
 -- the conic with another rule, and nothing else changed
@@ -30,12 +32,17 @@ pub record LineAlike (s t : Test) (a c : Float) (l : Line) : Type 0 where
   pub right : Alike s t (middleOf s a (l .middle) c) (l .right) c
 
 -- of a conic's own middle b, and where that passes, of the line of the chop
-pub record AxisAlike (s t : Test) (a b c : Float) (l : Line) : Type 0 where
+pub record TestsAlike (s t : Test) (a b c : Float) (l : Line) : Type 0 where
   pub control : Alike s t a b c
   pub chopped : T (passes s a b c) → LineAlike s t a c l
+
+-- both leave the line as it is, as a test that nothing passes always does
+abbrev pub BothLeave : Test → Test → Float → Float → Float → Line → Type 0
+BothLeave s t a b c l = (staysOf s a b c l ≡ true) × (staysOf t a b c l ≡ true)
 
 -- along each axis, of the conic's rule and of v
 abbrev pub ChopAlike : Rule → Conic → Type 0
 ChopAlike v c =
     (k : Axis)
-    → AxisAlike (testAlong k (c .rule)) (testAlong k v) (along k (c .p0)) (along k (c .p1)) (along k (c .p2)) (on k (linesOf c))
+    → TestsAlike (testAlong k (c .rule)) (testAlong k v) (along k (c .p0)) (along k (c .p1)) (along k (c .p2)) (on k (linesOf c))
+    ⊎ BothLeave (testAlong k (c .rule)) (testAlong k v) (along k (c .p0)) (along k (c .p1)) (along k (c .p2)) (on k (linesOf c))

@@ -13,6 +13,7 @@ productTest a b c = le ((a ⊖ b) ⊗ (c ⊖ b)) zero32
 abbrev pub exactTest : Float → Float → Float → Bool
 exactTest a b c = (le a b && le b c) || (le b a && le c b)
 
+-- nothing passes the first, so that an axis that goes by it is left as it is
 unfoldable pub passes : Test → Float → Float → Float → Bool
 passes Never a b c = false
 passes Product a b c = productTest a b c

@@ -1,11 +1,8 @@
 -- What a rule does along each axis (docs/RULES.md, "Conics"). Definitions only.
-use mathlib.Core.Bool.{Bool}
-use lib.Ieee.{Float}
 use Rattle.conic.specs.declared.Rule.{Rule}
 use Rattle.conic.specs.declared.Rule.the-variants.{Product, Exact, BothAxes}
 use Rattle.conic.specs.declared.ruling.Test.{Test}
 use Rattle.conic.specs.declared.ruling.Test.the-variants as By
-use Rattle.conic.specs.Between.{passes}
 
 pub data Axis : Type 0 where
   X Y : Axis
@@ -18,7 +15,3 @@ testAlong X BothAxes = By.Exact
 testAlong Y Product = By.Product
 testAlong Y Exact = By.Exact
 testAlong Y BothAxes = By.Exact
-
--- the rule's own test, by which it goes along y
-abbrev pub test : Rule → Float → Float → Float → Bool
-test u a b c = passes (testAlong Y u) a b c

@@ -7,7 +7,6 @@ ghost use Rattle.conic.specs.Between.{productTest, exactTest};
 ghost use Rattle.conic.specs.Chop.{conicFrom, weightOf, chopOf, chopByRule};
 ghost use Rattle.conic.specs.Level.{Chosen};
 ghost use Rattle.conic.specs.Refusal.{numberOfRefusal, numberOfFromPoints, numberOfLevel};
-ghost use Rattle.conic.specs.Rule.{test};
 ghost use Rattle.conic.specs.Source.{conicOf, shortSource, Taken};
 use depth::Depth;
 use point::Point;
@@ -111,13 +110,6 @@ pub fn between_exact(a: f32, b: f32, c: f32) -> bool
     ensures { λ r. ⌜ r ≡ exactTest a b c ⌝ }
 {
     ((a <= b) & (b <= c)) | ((a >= b) & (b >= c))
-}
-
-// The rule's own test, by which it goes along y.
-pub fn between(rule: Rule, a: f32, b: f32, c: f32) -> bool
-    ensures { λ r. ⌜ r ≡ test rule a b c ⌝ }
-{
-    ruling::passes(ruling::along_y(rule), a, b, c)
 }
 
 impl Conic {

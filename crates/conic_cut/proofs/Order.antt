@@ -17,9 +17,9 @@ use Rattle.conic.specs.declared.Halves.{Halves}
 use Rattle.conic.specs.declared.Rule.the-variants.{BothAxes}
 use Rattle.conic.specs.Chop.{along, halvesAt, chopAt, chopByRule}
 use Rattle.conic.specs.Rule.{Axis, X, Y, testAlong}
-use Rattle.conic.proofs.Ways.{Way, Runs, up-way, down-way, PutsInOrder, halves-run, halves-rule}
+use Rattle.conic.proofs.Ways.{Way, Runs, up-way, down-way, PutsInOrder, halves-run, halves-ordered}
 use Rattle.conic_cut.specs.Cut.{cutPoints, allFinite, plain, pinned, written}
-use Rattle.conic_cut.specs.Order.{Steps, OneWay, FiniteCoordinates, AllFiniteCoordinates, firstOf, lastOf, Premise, InOrder}
+use Rattle.conic_cut.specs.Order.{Steps, OneWay, FiniteCoordinates, AllFiniteCoordinates, firstOf, lastOf, Premise, InOrder, OrderAlong, OrderKept}
 use Rattle.conic_cut.proofs.Stores.{KeepsEnd, inner, cut-split}
 
 -- ---- a step whose halves start and end where the conic does, and meet
@@ -85,7 +85,7 @@ module _ (k : Axis) (n : ℕ) (c : Conic) (o : PutsInOrder k c) (g : Premise k c
   plain-steps : (W : Way) → Runs W k c → Steps (W .rel) k (plain chopByRule n c)
   plain-steps W r =
       cut-steps (W .rel) k chopByRule joined (λ d. PutsInOrder k d × Runs W k d)
-      (λ d q. let rule = halves-rule k d (q .0) in let runs = halves-run W k d (q .0) (q .1) in ((rule .0, runs .0), (rule .1, runs .1)))
+      (λ d q. let rule = halves-ordered k d (q .0) in let runs = halves-run W k d (q .0) (q .1) in ((rule .0, runs .0), (rule .1, runs .1)))
       (λ d q. (q .1 .low, q .1 .high)) n c (o, r)
 
   pins-steps : (W : Way) → Runs W k c → Steps (W .rel) k (pinned n c)
@@ -125,7 +125,7 @@ cut-in-order k n c o g =
     record { one-way = one-way k n c o g; all-finite = rest .0; first = rest .1; last = rest .2 }
 
 -- by the rule of both axes neither turns back
-pub both-in-order : (n : ℕ) (c : Conic) → c .rule ≡ BothAxes → Premise X c → Premise Y c
-    → InOrder X c (written chopByRule n c) × InOrder Y c (written chopByRule n c)
+pub neither-turns-back : (n : ℕ) (c : Conic) (l l₁ : List Float) → c .rule ≡ BothAxes → OrderKept n c l l₁
+    → OrderAlong X n c l l₁ × OrderAlong Y n c l l₁
 unfolding testAlong
-both-in-order n c e gx gy = (cut-in-order X n c (ap (testAlong X) e) gx, cut-in-order Y n c (ap (testAlong Y) e) gy)
+neither-turns-back n c l l₁ e o = (o X (ap (testAlong X) e), o Y (ap (testAlong Y) e))

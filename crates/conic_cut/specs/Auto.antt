@@ -1,4 +1,4 @@
--- What `AutoConicToQuads` answers of a conic, which has the product rule: the cut at the level for a tolerance of a quarter
+-- What `AutoConicToQuads` answers of a conic: the cut at the level for a tolerance of a quarter. The call gives it the product rule
 -- (docs/RULES.md, "Conics"). Definitions only.
 use Prim.Native.Nat.{ℕ, _^_}
 use mathlib.Core.Path.{_≡_}

@@ -10,7 +10,7 @@ use lib.Ieee.{Float, le}
 use lib.Ieee.Scale.{finite}
 use Rattle.point.specs.declared.Point.{Point}
 use Rattle.conic.specs.declared.Conic.{Conic}
-use Rattle.conic.specs.declared.ruling.Test.the-variants.{Exact}
+use Rattle.conic.specs.declared.ruling.Test.the-variants as By
 use Rattle.conic.specs.Between.{exactTest}
 use Rattle.conic.specs.Chop.{along}
 use Rattle.conic.specs.Level.{ceiling}
@@ -48,7 +48,7 @@ unfoldable pub lastOf : Point → List Point → Point
 lastOf s [] = s
 lastOf s (p ∷ l) = lastOf p l
 
--- three finite points, along k the middle one between the ends or level with one; the weight may be anything
+-- three finite points, along k the middle one between the ends or equal to one; the weight may be anything
 pub record Premise (k : Axis) (c : Conic) : Type 0 where
   pub start : FiniteCoordinates (c .p0)
   pub middle : FiniteCoordinates (c .p1)
@@ -78,4 +78,4 @@ OrderAlong k n c l l₁ = n ≤ ceiling → room n ≤ length l → Premise k c 
 
 -- along each axis that the conic's rule puts in order by the exact test; of both at once it is said of the same points
 abbrev pub OrderKept : ℕ → Conic → List Float → List Float → Type 0
-OrderKept n c l l₁ = (k : Axis) → testAlong k (c .rule) ≡ Exact → OrderAlong k n c l l₁
+OrderKept n c l l₁ = (k : Axis) → testAlong k (c .rule) ≡ By.Exact → OrderAlong k n c l l₁

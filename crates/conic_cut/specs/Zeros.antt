@@ -13,6 +13,6 @@ SameNumbers k [] (q ∷ m) = ⊥
 SameNumbers k (p ∷ l) [] = ⊥
 SameNumbers k (p ∷ l) (q ∷ m) = SameNumber (along k p) (along k q) × SameNumbers k l m
 
--- the same along both axes; of the weights nothing is said
+-- the same along both axes; of weight and rule nothing is said
 abbrev pub SameCorners : Conic → Conic → Type 0
 SameCorners c d = (k : Axis) → SameNumbers k (c .p0 ∷ c .p1 ∷ c .p2 ∷ []) (d .p0 ∷ d .p1 ∷ d .p2 ∷ [])

@@ -72,7 +72,7 @@ fn cuts() {
     bend(b"weight 1, level 1:", &mut ten, 1);
     bend(b"level 5:", &mut ten, 5);
     let nan = 0.0 / 0.0;
-    cut(b"NaN weight:", &mut ten, Rule::Exact, &BEND, nan, 1);
+    cut(b"NaN weight, exact:", &mut ten, Rule::Exact, &BEND, nan, 1);
     cut(
         b"NaN weight, both axes:",
         &mut ten,

@@ -61,7 +61,8 @@ fn give_halves(c: Conic, halves: &mut [f32; 14])
     ];
 }
 
-// Halves a conic as the formulas say, with no correction: x and y of three points and a weight, for each half.
+// Halves a conic as the formulas say, with no correction, so that a rule has no part in it: x and y of three points and a
+// weight, for each half.
 #[no_mangle]
 pub extern "C" fn nz_conic_chop(src: &[f32], weight: f32, halves: &mut [f32; 14]) -> u32
     ensures { λ r. ⌜ r ≡ refuseSource (now (src .entry)) numberOfRefusal 0 ⌝ }
@@ -127,7 +128,8 @@ pub extern "C" fn nz_conic_chop_into_quads_pow2(
 }
 
 // The same by the exact between test. From three finite points whose middle y lies between the end ys or equals one, the
-// ys along the written points keep one direction, rising or falling, whatever the weight. Of the xs nothing is said.
+// ys along the written points keep one direction, rising or falling, whatever the weight. The xs are as the formulas give
+// them.
 #[no_mangle]
 pub extern "C" fn nz_cut_in_order(src: &[f32], weight: f32, level: u32, out: &mut [f32]) -> u32
     ensures { λ r. ⌜ r ≡ refuseCut level (length (now (out .entry))) (shortSource (now (src .entry))) numberOfRefusal 0 ⌝ }
