@@ -211,4 +211,5 @@ pub const CALLS: &[Call] = &[
         if t.is_identity() { o.copied(&numbers(p)) } else { o.computed(&numbers(p)) }
     } },
     Call { name: "transform: map_numbers", share: 5, listed: 9000, make: matrices, ours: mapped, theirs: their_mapped },
+    Call { name: "cut_in_order_both", share: 8, listed: 3000, make: conic_of_axes, ours: |c, o| cut(c, o, nz_cut_in_order_both), theirs: by_both_axes },
 ];

@@ -143,6 +143,27 @@ impl Inputs {
         p
     }
 
+    // One axis of a conic: some put in order; some with the least or the greatest number in the middle; some with a middle
+    // that is one unit in the last place outside of the ends.
+    pub fn axis(&mut self, mut p: [f32; 3]) -> [f32; 3] {
+        match self.below(8) {
+            0..=2 => p.sort_by(f32::total_cmp),
+            3 => {
+                p.sort_by(f32::total_cmp);
+                p.swap(1, 2 * self.below(2) as usize);
+            }
+            4 => {
+                let far = if p[0].abs() > p[2].abs() { p[0] } else { p[2] };
+                p[1] = f32::from_bits(far.to_bits().wrapping_add(1));
+            }
+            _ => {}
+        }
+        if self.chance(2) {
+            p.reverse();
+        }
+        p
+    }
+
     // A matrix in from_row order: of every kind, near-singular ones among them.
     pub fn matrix(&mut self) -> [f32; 6] {
         let mut m = [0.0; 6];

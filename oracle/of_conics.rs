@@ -3,7 +3,6 @@ use crate::calls::*;
 use crate::inputs::Inputs;
 use crate::outputs::{buffer, Output};
 use original::path_geometry::{AutoConicToQuads, Conic};
-use original::Point;
 
 pub fn conic(i: &mut Inputs, c: &mut Case) {
     i.begin();
@@ -12,6 +11,18 @@ pub fn conic(i: &mut Inputs, c: &mut Case) {
     c.f[7] = i.tolerance();
     c.level = if i.chance(20) { i.next() as u32 >> i.below(32) } else { i.below(5) as u32 };
     c.len = [i.length(6).min(11), i.length(room(c.level.min(5)))];
+}
+
+// The same, most of them with room; and each axis for itself is put in order or out of it, so that the axes differ often.
+pub fn conic_of_axes(i: &mut Inputs, c: &mut Case) {
+    conic(i, c);
+    if !i.chance(6) {
+        c.level = c.level.min(4);
+        c.len = [6, room(c.level)];
+    }
+    for k in 0..2 {
+        [c.f[k], c.f[k + 2], c.f[k + 4]] = i.axis([c.f[k], c.f[k + 2], c.f[k + 4]]);
+    }
 }
 
 pub const fn room(level: u32) -> usize {
@@ -47,27 +58,25 @@ pub fn judged(c: &Case, out: &mut Output, made: impl Fn(&mut [f32; 66])) {
     out.untouched(0, 140);
 }
 
-pub fn by_product(c: &Case, out: &mut Output) {
-    judged(c, out, |all| {
-        let p = points::<3>(&c.f);
-        let mut made = [Point::zero(); 33];
-        Conic::new(p[0], p[1], p[2], c.f[6]).chop_into_quads_pow2(c.level as u8, &mut made);
-        for (k, p) in made.iter().enumerate() {
-            all[2 * k..2 * k + 2].copy_from_slice(&numbers(*p));
+// A cut by the judge of one rule. The judges are crates of their own, whose points are types of their own.
+macro_rules! judge {
+    ($name:ident, $judge:ident) => {
+        pub fn $name(c: &Case, out: &mut Output) {
+            judged(c, out, |all| {
+                let at = |k: usize| $judge::Point::from_xy(c.f[2 * k], c.f[2 * k + 1]);
+                let mut made = [$judge::Point::zero(); 33];
+                $judge::path_geometry::Conic::new(at(0), at(1), at(2), c.f[6]).chop_into_quads_pow2(c.level as u8, &mut made);
+                for (k, p) in made.iter().enumerate() {
+                    all[2 * k..2 * k + 2].copy_from_slice(&[p.x, p.y]);
+                }
+            });
         }
-    });
+    };
 }
 
-pub fn by_exact(c: &Case, out: &mut Output) {
-    judged(c, out, |all| {
-        let at = |k: usize| exact::Point::from_xy(c.f[2 * k], c.f[2 * k + 1]);
-        let mut made = [exact::Point::zero(); 33];
-        exact::path_geometry::Conic::new(at(0), at(1), at(2), c.f[6]).chop_into_quads_pow2(c.level as u8, &mut made);
-        for (k, p) in made.iter().enumerate() {
-            all[2 * k..2 * k + 2].copy_from_slice(&[p.x, p.y]);
-        }
-    });
-}
+judge!(by_product, original);
+judge!(by_exact, exact);
+judge!(by_both_axes, both);
 
 pub fn level(c: &Case, out: &mut Output) {
     let t = c.f[7];
