@@ -78,6 +78,11 @@ impl Output {
         })
     }
 
+    // Word k as it is.
+    pub fn word(&self, k: usize) -> u32 {
+        self.words[k]
+    }
+
     // Whether the two are the same; `self` is the library's, and the judge says which words are computed.
     pub fn same(&self, judge: &Output) -> bool {
         self.len == judge.len && (0..self.len).all(|k| {
