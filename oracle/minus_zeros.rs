@@ -27,6 +27,8 @@ const fn matrix(m: [f32; 6]) -> Case {
 
 const FLAT_START: [f32; 6] = [-0.0, -0.0, -0.0, -0.0, 4.0, 4.0];
 const FLAT_END: [f32; 6] = [-4.0, 4.0, -0.0, -0.0, -0.0, -0.0];
+// With a weight below 0 the first control's x is put at the start, and is −0 by that alone.
+const TURNING: [f32; 6] = [-0.0, 5.0, 1.0, 6.0, 4.0, 9.0];
 
 pub const THROUGH: &[Through] = &[
     Through { title: "minus zero through a chop", cases: &[
@@ -40,6 +42,8 @@ pub const THROUGH: &[Through] = &[
         ("conic_chop_into_quads_pow2", conic(FLAT_END, 0.5, 4)),
         ("cut_in_order", conic(FLAT_START, 1.0, 1)),
         ("cut_in_order", conic(FLAT_END, 0.5, 4)),
+        ("cut_in_order_both", conic(FLAT_END, 0.5, 4)),
+        ("cut_in_order_both", conic(TURNING, -0.5, 1)),
         ("auto_conic_to_quads", conic(FLAT_START, 1.0, 1)),
     ] },
     Through { title: "minus zero through a mapping", cases: &[
