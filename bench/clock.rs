@@ -23,11 +23,20 @@ fn median(calls: usize, mut batch: impl FnMut()) -> f64 {
 }
 
 fn row(name: &str, ours: f64, theirs: f64) {
-    println!("{:<52} {:8.1} ns, the original {:8.1} ns, {:.2} times", name, ours, theirs, ours / theirs);
+    println!("{:<56} {:8.1} ns, the original {:8.1} ns, {:.2} times", name, ours, theirs, ours / theirs);
 }
 
-// Conics with whole milliseconds, monotone; or with coordinates whose products overflow.
-fn conics(huge: bool) -> Vec<([f32; 6], f32)> {
+// What conics are timed: in whole milliseconds; with coordinates whose products overflow; and of a weight below 0, so that the
+// first chop has to be corrected along both axes.
+#[derive(Clone, Copy, PartialEq)]
+enum Kind {
+    Plain,
+    Overflowing,
+    Corrected,
+}
+
+// All of them are in order along both axes.
+fn conics(kind: Kind) -> Vec<([f32; 6], f32)> {
     let mut s = 88172645463325252u64;
     let mut next = move || {
         s ^= s << 13;
@@ -37,10 +46,11 @@ fn conics(huge: bool) -> Vec<([f32; 6], f32)> {
     };
     (0..CONICS)
         .map(|_| {
-            let scale = if huge { 1.0e32 } else { 1.0 };
+            let scale = if kind == Kind::Overflowing { 1.0e32 } else { 1.0 };
             let (a, b, c) = (next(), next(), next());
             let p = [a, c, a + b * 0.5, c + b * 0.25, a + b, c + b].map(|x| x * scale);
-            (p, 0.25 + next() / 16777216.0)
+            let weight = 0.25 + next() / 16777216.0;
+            (p, if kind == Kind::Corrected { -0.5 * weight } else { weight })
         })
         .collect()
 }
@@ -48,8 +58,11 @@ fn conics(huge: bool) -> Vec<([f32; 6], f32)> {
 // One of the library's cuts, as the C face has it.
 type Cut = unsafe extern "C" fn(*const f32, u64, f32, u32, *mut f32, u64) -> u32;
 
-fn cuts(huge: bool, cleared: bool) {
-    let inputs = conics(huge);
+const RULES: [(&str, Cut); 3] =
+    [("product rule", nz_conic_chop_into_quads_pow2), ("exact rule", nz_cut_in_order), ("both axes", nz_cut_in_order_both)];
+
+fn cuts(kind: Kind, cleared: bool) {
+    let inputs = conics(kind);
     let originals: Vec<Conic> = inputs
         .iter()
         .map(|(p, w)| Conic::new(Point::from_xy(p[0], p[1]), Point::from_xy(p[2], p[3]), Point::from_xy(p[4], p[5]), *w))
@@ -64,7 +77,7 @@ fn cuts(huge: bool, cleared: bool) {
         }
     });
     let mut out = [0.0f32; 66];
-    for (name, cut) in [("product", nz_conic_chop_into_quads_pow2 as Cut), ("exact", nz_cut_in_order as Cut)] {
+    for (rule, cut) in RULES {
         let ours = median(CONICS, || {
             for (p, w) in &inputs {
                 if cleared {
@@ -73,9 +86,9 @@ fn cuts(huge: bool, cleared: bool) {
                 black_box(unsafe { cut(black_box(p).as_ptr(), 6, *w, 4, out.as_mut_ptr(), 66) });
             }
         });
-        let kind = if huge { ", overflowing" } else { "" };
+        let kind = ["", ", overflowing", ", corrected"][kind as usize];
         let buffer = if cleared { "cleared" } else { "not cleared" };
-        row(&format!("cut at level 4, {} rule{}, {}", name, kind, buffer), ours, theirs);
+        row(&format!("cut at level 4, {}{}, {}", rule, kind, buffer), ours, theirs);
     }
 }
 
@@ -94,7 +107,7 @@ fn mapping() {
 // Independent calls, each through a pointer of its own, so that neither side is inlined.
 fn ground() {
     const CALLS: usize = 1024;
-    let singles: Vec<f32> = conics(false).iter().cycle().take(CALLS).map(|c| c.0[1] + 1.0).collect();
+    let singles: Vec<f32> = conics(Kind::Plain).iter().cycle().take(CALLS).map(|c| c.0[1] + 1.0).collect();
     let doubles: Vec<f64> = singles.iter().map(|x| *x as f64 * 1.1).collect();
     fn timed<A: Copy, B>(inputs: &[A], f: fn(A) -> B) -> f64 {
         let f = black_box(f);
@@ -112,8 +125,9 @@ fn ground() {
 
 fn main() {
     for cleared in [false, true] {
-        cuts(false, cleared);
-        cuts(true, cleared);
+        for kind in [Kind::Plain, Kind::Overflowing, Kind::Corrected] {
+            cuts(kind, cleared);
+        }
     }
     mapping();
     ground();
