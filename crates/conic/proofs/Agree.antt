@@ -1,7 +1,7 @@
 -- Where the rules of two conics that differ in their rule alone answer every question of a chop alike, so do their halves. Assumes nothing.
 use mathlib.Core.Path.{_≡_, refl, sym, ap, _∙_}
 use mathlib.Core.Bool.{Bool, true, false, cond}
-use mathlib.Core.Logic.{_⊎_, ⊎-elim}
+use mathlib.Core.Logic.{⊎-elim}
 use lib.Dec.{T}
 use lib.Ieee.{Float}
 use Rattle.conic.specs.declared.Conic.{Conic}
@@ -9,7 +9,7 @@ use Rattle.conic.specs.declared.Rule.{Rule}
 use Rattle.conic.specs.declared.chopping.Line.{Line}
 use Rattle.conic.specs.declared.chopping.Lines.{Lines}
 use Rattle.conic.specs.declared.ruling.Test.{Test}
-use Rattle.conic.specs.Agree.{withRule, withRules, LineAlike, TestsAlike, BothLeave, ChopAlike}
+use Rattle.conic.specs.Agree.{withRule, withRules, LineAlike, TestsAlike, AxisAlike, ChopAlike}
 use Rattle.conic.specs.Between.{passes}
 use Rattle.conic.specs.Chop.{linesAt, linesOf, weightOf, halvesAt, mendedLines, chopAt, chopByRule}
 use Rattle.conic.specs.Mend.{orderedOf, mendedOf}
@@ -29,7 +29,7 @@ unfolding mendedOf
 same-tests s t a b c l h =
     rw (← h .control) (same-if (passes s a b c) (orderedOf s a c l) (orderedOf t a c l) l (λ p. same-ordered s t a c l (h .chopped p)))
 
-same-mended : (s t : Test) (a b c : Float) (l : Line) → TestsAlike s t a b c l ⊎ BothLeave s t a b c l → mendedOf s a b c l ≡ mendedOf t a b c l
+same-mended : (s t : Test) (a b c : Float) (l : Line) → AxisAlike s t a b c l → mendedOf s a b c l ≡ mendedOf t a b c l
 same-mended s t a b c l h = ⊎-elim (same-tests s t a b c l) (λ p. stay s a b c l (p .0) ∙ sym (stay t a b c l (p .1))) h
 
 both-lines : (l m : Lines) → l .x ≡ m .x → l .y ≡ m .y → l ≡ m

@@ -1,5 +1,5 @@
--- Where the rules of two conics that differ in their rule alone answer every question of a chop alike (docs/RULES.md, "Conics").
--- Definitions only.
+-- Where the rules of two conics that differ in their rule alone answer every question of a chop alike, or leave its lines as they are
+-- (docs/RULES.md, "Conics"). Definitions only.
 use mathlib.Core.Path.{_≡_}
 use mathlib.Core.Bool.{true}
 use mathlib.Core.Logic.{_⊎_}
@@ -40,9 +40,11 @@ pub record TestsAlike (s t : Test) (a b c : Float) (l : Line) : Type 0 where
 abbrev pub BothLeave : Test → Test → Float → Float → Float → Line → Type 0
 BothLeave s t a b c l = (staysOf s a b c l ≡ true) × (staysOf t a b c l ≡ true)
 
+abbrev pub AxisAlike : Test → Test → Float → Float → Float → Line → Type 0
+AxisAlike s t a b c l = TestsAlike s t a b c l ⊎ BothLeave s t a b c l
+
 -- along each axis, of the conic's rule and of v
 abbrev pub ChopAlike : Rule → Conic → Type 0
 ChopAlike v c =
     (k : Axis)
-    → TestsAlike (testAlong k (c .rule)) (testAlong k v) (along k (c .p0)) (along k (c .p1)) (along k (c .p2)) (on k (linesOf c))
-    ⊎ BothLeave (testAlong k (c .rule)) (testAlong k v) (along k (c .p0)) (along k (c .p1)) (along k (c .p2)) (on k (linesOf c))
+    → AxisAlike (testAlong k (c .rule)) (testAlong k v) (along k (c .p0)) (along k (c .p1)) (along k (c .p2)) (on k (linesOf c))
