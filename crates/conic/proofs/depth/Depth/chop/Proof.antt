@@ -5,6 +5,12 @@ use Rattle.conic.proofs.Whole.{whole-chop}
 use Rattle.conic.proofs.depth.Depth.chop.Statement.{statement}
 use Rattle.conic.proofs.depth.Depth.chop.Tie as tie
 
+returns : tie.Need-returns
+returns c = rw (c .chop-in-full .ensures, c .before .put-together .ensures)
+
+returns-2 : tie.Need-returns-2
+returns-2 c = rw (c .chop-in-full2 .ensures, c .before .put-together2 .ensures)
+
 returns-3 : tie.Need-returns-3
 returns-3 c =
     let a = c .before .before .before .before .before .before .args in
@@ -18,5 +24,4 @@ returns-3 c =
 pub chop-spec : {M : Type 1} → statement M
 chop-spec =
     tie.close
-    (tie.spec (λ c κs. tt) (λ c κs. tt) (λ c κs. tt) (λ c. c .chop-in-full .ensures) (λ c κs. tt) (λ c κs. tt)
-    (λ c. c .chop-in-full2 .ensures) (λ c κs. tt) returns-3)
+    (tie.spec (λ c κs. tt) (λ c κs. tt) (λ c κs. tt) (λ c κs. tt) returns (λ c κs. tt) (λ c κs. tt) (λ c κs. tt) returns-2 (λ c κs. tt) returns-3)
