@@ -28,7 +28,7 @@
 #include <stdbool.h>
 #include <stdint.h>
 
-#define NZ_VERSION "0.1.0"
+#define NZ_VERSION "0.2.0"
 
 /* the answers */
 #define NZ_OK 0u                  /* none below applies */
