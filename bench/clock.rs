@@ -26,7 +26,7 @@ fn row(name: &str, ours: f64, theirs: f64) {
     println!("{:<56} {:8.1} ns, the original {:8.1} ns, {:.2} times", name, ours, theirs, ours / theirs);
 }
 
-// What conics are timed: in whole milliseconds; with coordinates whose products overflow; and of a weight below 0, so that the
+// What conics are timed: of milliseconds; with finite coordinates whose products overflow; and of a weight below 0, so that the
 // first chop has to be corrected along both axes.
 #[derive(Clone, Copy, PartialEq)]
 enum Kind {
@@ -46,7 +46,7 @@ fn conics(kind: Kind) -> Vec<([f32; 6], f32)> {
     };
     (0..CONICS)
         .map(|_| {
-            let scale = if kind == Kind::Overflowing { 1.0e32 } else { 1.0 };
+            let scale = if kind == Kind::Overflowing { 1.0e30 } else { 1.0 };
             let (a, b, c) = (next(), next(), next());
             let p = [a, c, a + b * 0.5, c + b * 0.25, a + b, c + b].map(|x| x * scale);
             let weight = 0.25 + next() / 16777216.0;

@@ -78,10 +78,10 @@ uint32_t nz_cut_in_order(const float *NZ_RESTRICT src, nz_len src_len, float wei
  * ends or equals one of them, all written coordinates are finite, the first and the last point are the conic's own, and along
  * that axis the points keep one direction, rising or falling, ties allowed (falling where the last is below the first: test
  * x0 <= x2 if a table is to run forward). If that is so along both axes, both keep theirs. Test each coordinate with
- * nz_is_finite_f32 and the middle x and the middle y with nz_between_exact; an axis that fails can turn back, the other keeps
- * its promise, and the answer is NZ_OK all the same.
- *   Pinning, and the answers, are those of nz_cut_in_order. Which points are pinned can differ, since it hangs on x * y, and
- * then the ys do: by a NaN weight nz_cut_in_order leaves NaN xs and is pinned, and this call is not. */
+ * nz_is_finite_f32: where one fails nothing is promised. Test the middle x and the middle y with nz_between_exact: an axis
+ * that fails can turn back, and the other keeps its promise. The answer is NZ_OK all the same.
+ *   Pinning, and the answers, are those of nz_cut_in_order. Which cuts are pinned can differ, since it hangs on x * y, and
+ * then the ys do: (0,0), (4,0), (4,4), NaN weight, level 1, is pinned by nz_cut_in_order, whose xs are NaN, and not here. */
 uint32_t nz_cut_in_order_both(const float *NZ_RESTRICT src, nz_len src_len, float weight, uint32_t level, float *NZ_RESTRICT out, nz_len out_len);
 
 /* As nz_cut_in_order, of the ys alone, by the test of tiny-skia-path, on a product, which may overflow or underflow: there

@@ -91,7 +91,7 @@ impl Tally {
         }
     }
 
-    // The table; whether there was a difference or a broken promise.
+    // The table; whether there was a difference or a promise failed.
     fn print(&self) -> bool {
         for (call, d) in CALLS.iter().zip(&self.done).filter(|(_, d)| d[0] > 0) {
             println!("{:>11} inputs, {:>9} answered with −0, {} differences: {}", d[0], d[1], d[2], call.name);
@@ -102,7 +102,7 @@ impl Tally {
         self.promises.iter().filter(|p| self.done[p.call][0] > 0).for_each(Promise::print);
         let sum = |of: usize| self.done.iter().map(|d| d[of]).sum::<u64>();
         println!("{} inputs, {} differences", sum(0), sum(2));
-        sum(2) > 0 || self.promises.iter().any(|p| p.broken > 0)
+        sum(2) > 0 || self.promises.iter().any(Promise::failed)
     }
 }
 

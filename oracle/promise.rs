@@ -7,12 +7,24 @@ use crate::outputs::Output;
 const X: usize = 0;
 const Y: usize = 1;
 
-// The calls that promise it, and along which axis.
-const MADE: [(&str, usize); 3] = [("cut_in_order", Y), ("cut_in_order_both", Y), ("cut_in_order_both", X)];
+// The calls that promise it, and along which axis. Of the last two, which do not, it is asked as well: there it has to be
+// broken, which shows that the test can fail.
+const ASKED: [(&str, usize, bool); 5] = [
+    ("cut_in_order", Y, true),
+    ("cut_in_order_both", Y, true),
+    ("cut_in_order_both", X, true),
+    ("conic_chop_into_quads_pow2", Y, false),
+    ("cut_in_order", X, false),
+];
+
+// With fewer inputs of its call, a promise that was not asked or not broken says nothing.
+const FEW: u64 = 100_000;
 
 pub struct Promise {
     pub call: usize,
     axis: usize,
+    made: bool,
+    inputs: u64,
     tested: u64,
     pub broken: u64,
 }
@@ -22,7 +34,7 @@ fn place(name: &str) -> usize {
 }
 
 pub fn promises() -> Vec<Promise> {
-    MADE.iter().map(|(name, axis)| Promise { call: place(name), axis: *axis, tested: 0, broken: 0 }).collect()
+    ASKED.iter().map(|&(name, axis, made)| Promise { call: place(name), axis, made, inputs: 0, tested: 0, broken: 0 }).collect()
 }
 
 fn is_cut(c: &Case) -> bool {
@@ -57,29 +69,37 @@ fn kept(c: &Case, axis: usize, out: &Output) -> bool {
 }
 
 impl Promise {
-    // Whether it is made of this input.
-    fn made(&self, c: &Case) -> bool {
+    // Whether this input meets its condition.
+    fn holds_of(&self, c: &Case) -> bool {
         is_cut(c) && is_finite(c) && in_order(c, self.axis)
     }
 
-    // Counts an input of the call and what the call wrote; whether that breaks the promise.
+    // Counts an input of the call and what the call wrote; whether that breaks a promise that the call makes.
     pub fn test(&mut self, c: &Case, out: &Output) -> bool {
-        let made = self.made(c);
-        let broken = made && !kept(c, self.axis, out);
-        self.tested += made as u64;
+        let holds = self.holds_of(c);
+        let broken = holds && !kept(c, self.axis, out);
+        self.inputs += 1;
+        self.tested += holds as u64;
         self.broken += broken as u64;
-        broken
+        broken && self.made
+    }
+
+    // Whether the counts are as they must not be: broken, or never asked; or, where it is not made, never broken.
+    pub fn failed(&self) -> bool {
+        let many = self.inputs > FEW;
+        if self.made { self.broken > 0 || many && self.tested == 0 } else { many && self.broken == 0 }
     }
 
     // Whether the call breaks the promise on this input.
     pub fn breaks(&self, c: &Case) -> bool {
         let mut out = Output::new();
         (CALLS[self.call].ours)(c, &mut out);
-        self.made(c) && !kept(c, self.axis, &out)
+        self.holds_of(c) && !kept(c, self.axis, &out)
     }
 
     pub fn name(&self) -> String {
-        format!("{}, the promise of order along {}", CALLS[self.call].name, ["x", "y"][self.axis])
+        let whose = if self.made { "the promise" } else { "which does not promise it" };
+        format!("{}, {}: order along {}", CALLS[self.call].name, whose, ["x", "y"][self.axis])
     }
 
     pub fn print(&self) {
@@ -88,7 +108,7 @@ impl Promise {
 }
 
 const KINDS: [&str; 6] = [
-    "in order along both axes", "in order along x alone", "in order along y alone", "in order along no axis", "with a number that is not finite",
+    "in order along both axes", "in order along x alone", "in order along y alone", "in order along no axis", "with a coordinate that is not finite",
     "refused",
 ];
 

@@ -2,7 +2,7 @@
 use mathlib.Core.Path.{_≡_, refl}
 use mathlib.Core.List.{List, [], _∷_}
 use lib.Dec.{T}
-use lib.Ieee.{binary32, ofBits, toBits, fits, add, sub, mul, div, lt, le}
+use lib.Ieee.{ofBits, toBits, fits, add, sub, mul, div, lt, le}
 use Rattle.float_laws.specs.Absolute.{absOf}
 use Rattle.float_laws.specs.Narrow.{roundTo}
 use Rattle.float_laws.specs.Root.{rootOf}

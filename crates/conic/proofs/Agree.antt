@@ -1,4 +1,5 @@
--- Where the rules of two conics that differ in their rule alone answer every question of a chop alike, so do their halves. Assumes nothing.
+-- Where the rules of two conics that differ in their rule alone answer every question of a chop alike, or leave its lines as they are,
+-- their halves differ in the rule alone. Assumes nothing.
 use mathlib.Core.Path.{_≡_, refl, sym, ap, _∙_}
 use mathlib.Core.Bool.{Bool, true, false, cond}
 use mathlib.Core.Logic.{⊎-elim}

@@ -9,9 +9,9 @@ use Rattle.conic.specs.declared.chopping.Lines.{Lines}
 use Rattle.conic.specs.declared.depth.Depth.{Depth}
 use Rattle.conic.specs.declared.ruling.Test.{Test}
 use Rattle.conic.specs.Between.{passes}
-use Rattle.conic.specs.Chop.{along, wideLine, plainLines, wholeMiddle, linesAt, halvesAt, mendedLines, staysLine, stayingLines, chopAt}
+use Rattle.conic.specs.Chop.{wideLine, plainLines, wholeMiddle, linesAt, halvesAt, mendedLines, staysLine, stayingLines, chopAt}
 use Rattle.conic.specs.Mend.{orderedOf, inOrder, mendedOf, staysOf}
-use Rattle.conic.specs.Rule.{Axis, X, Y, testAlong}
+use Rattle.conic.specs.Rule.{X, Y, testAlong}
 
 -- which lines a chop has, by the middle of the plain ones
 pub lines-whole : (p q l : Lines) → l ≡ p → wholeMiddle l ≡ true → l ≡ cond (wholeMiddle p) p q

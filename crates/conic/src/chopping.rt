@@ -101,7 +101,7 @@ pub fn mended(c: Conic, l: Lines) -> Lines
     Lines { x, y }
 }
 
-// c itself, put together number by number.
+// c itself, put together number by number: what is handed on stands in memory, and c then need not.
 pub fn put_together(c: Conic) -> Conic
     ensures { λ r. ⌜ r ≡ c ⌝ }
 {

@@ -1,5 +1,5 @@
--- Where the rules of two conics that differ in their rule alone answer every question of a cut alike, the same points are written.
--- Assumes nothing.
+-- Where the rules of two conics that differ in their rule alone answer every question of a cut alike, or leave its lines as they are,
+-- the same points are written. Assumes nothing.
 use mathlib.Core.Path.{_≡_, refl}
 use Prim.Native.Nat.{ℕ, zero, suc}
 use Rattle.conic.specs.declared.Conic.{Conic}

@@ -1,6 +1,7 @@
 pub mod Agree
 mod Answers
 mod Autos
+pub mod Both
 mod Ladder
 mod Lists
 pub mod Order

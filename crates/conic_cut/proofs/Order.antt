@@ -14,12 +14,11 @@ use Rattle.point.specs.declared.Point.{Point}
 use Rattle.point.specs.Point.{pointFinite}
 use Rattle.conic.specs.declared.Conic.{Conic}
 use Rattle.conic.specs.declared.Halves.{Halves}
-use Rattle.conic.specs.declared.Rule.the-variants.{BothAxes}
 use Rattle.conic.specs.Chop.{along, halvesAt, chopAt, chopByRule}
-use Rattle.conic.specs.Rule.{Axis, X, Y, testAlong}
+use Rattle.conic.specs.Rule.{Axis, X, Y}
 use Rattle.conic.proofs.Ways.{Way, Runs, up-way, down-way, PutsInOrder, halves-run, halves-ordered}
 use Rattle.conic_cut.specs.Cut.{cutPoints, allFinite, plain, pinned, written}
-use Rattle.conic_cut.specs.Order.{Steps, OneWay, FiniteCoordinates, AllFiniteCoordinates, firstOf, lastOf, Premise, InOrder, OrderAlong, OrderKept}
+use Rattle.conic_cut.specs.Order.{Steps, OneWay, FiniteCoordinates, AllFiniteCoordinates, firstOf, lastOf, Premise, InOrder}
 use Rattle.conic_cut.proofs.Stores.{KeepsEnd, inner, cut-split}
 
 -- ---- a step whose halves start and end where the conic does, and meet
@@ -123,9 +122,3 @@ cut-in-order k n c o g =
     (λ t. (passed-finite (plain chopByRule n c) t, refl, cut-last chopByRule (joined .end) n c (c .p0)))
     ((g .start, pinned-finite (c .p1) (c .p2) m (g .middle) (g .end)), refl, last-is (c .p0) (c .p2) (replicate m (c .p1))) in
     record { one-way = one-way k n c o g; all-finite = rest .0; first = rest .1; last = rest .2 }
-
--- by the rule of both axes neither turns back
-pub neither-turns-back : (n : ℕ) (c : Conic) (l l₁ : List Float) → c .rule ≡ BothAxes → OrderKept n c l l₁
-    → OrderAlong X n c l l₁ × OrderAlong Y n c l l₁
-unfolding testAlong
-neither-turns-back n c l l₁ e o = (o X (ap (testAlong X) e), o Y (ap (testAlong Y) e))

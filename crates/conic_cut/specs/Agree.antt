@@ -1,5 +1,5 @@
--- Where the rules of two conics that differ in their rule alone answer every question of a cut alike (docs/RULES.md, "Conics").
--- Definitions only.
+-- Where the rules of two conics that differ in their rule alone answer every question of a cut alike, or leave its lines as they are
+-- (docs/RULES.md, "Conics"). Definitions only.
 use Prim.Native.Nat.{ℕ, zero, suc}
 use Rattle.conic.specs.declared.Conic.{Conic}
 use Rattle.conic.specs.declared.Halves.{Halves}

@@ -128,8 +128,8 @@ pub extern "C" fn nz_conic_chop_into_quads_pow2(
 }
 
 // The same by the exact between test. From three finite points whose middle y lies between the end ys or equals one, the
-// ys along the written points keep one direction, rising or falling, whatever the weight. The xs are as the formulas give
-// them.
+// ys along the written points keep one direction, rising or falling, whatever the weight. The xs are not put in
+// order.
 #[no_mangle]
 pub extern "C" fn nz_cut_in_order(src: &[f32], weight: f32, level: u32, out: &mut [f32]) -> u32
     ensures { λ r. ⌜ r ≡ refuseCut level (length (now (out .entry))) (shortSource (now (src .entry))) numberOfRefusal 0 ⌝ }
