@@ -1,5 +1,6 @@
 // The clock: cutting, mapping, roots and narrowing beside the original, in one process: medians of 401 batches, in nanoseconds a
-// call. Cuts are timed with the buffer cleared before each call, on both sides, and not cleared.
+// call. Cuts are timed with the buffer cleared before each call, on both sides, and not cleared; and what a point costs at
+// level 4 and at level 6, in turns.
 use original::path_geometry::Conic;
 use original::{Point, Transform};
 use std::hint::black_box;
@@ -9,17 +10,27 @@ include!("../include/nyerdzumak.rs");
 
 const CONICS: usize = 64;
 
+// The time of one of the `calls` calls of a batch.
+fn time(calls: usize, batch: &mut dyn FnMut()) -> f64 {
+    let start = Instant::now();
+    batch();
+    start.elapsed().as_nanos() as f64 / calls as f64
+}
+
+fn middle(mut times: Vec<f64>) -> f64 {
+    times.sort_by(|a, b| a.partial_cmp(b).unwrap());
+    times[times.len() / 2]
+}
+
 // The median over 401 batches of the time of one of `calls` calls.
 fn median(calls: usize, mut batch: impl FnMut()) -> f64 {
-    let mut times: Vec<f64> = (0..401)
-        .map(|_| {
-            let start = Instant::now();
-            batch();
-            start.elapsed().as_nanos() as f64 / calls as f64
-        })
-        .collect();
-    times.sort_by(|a, b| a.partial_cmp(b).unwrap());
-    times[200]
+    middle((0..401).map(|_| time(calls, &mut batch)).collect())
+}
+
+// The same of two kinds of batches, in turns.
+fn medians(calls: usize, mut a: impl FnMut(), mut b: impl FnMut()) -> [f64; 2] {
+    let (of_a, of_b) = (0..401).map(|_| (time(calls, &mut a), time(calls, &mut b))).unzip();
+    [middle(of_a), middle(of_b)]
 }
 
 fn row(name: &str, ours: f64, theirs: f64) {
@@ -36,7 +47,7 @@ enum Kind {
 }
 
 // All of them are in order along both axes.
-fn conics(kind: Kind) -> Vec<([f32; 6], f32)> {
+fn conics(kind: Kind) -> Inputs {
     let mut s = 88172645463325252u64;
     let mut next = move || {
         s ^= s << 13;
@@ -61,34 +72,64 @@ type Cut = unsafe extern "C" fn(*const f32, u64, f32, u32, *mut f32, u64) -> u32
 const RULES: [(&str, Cut); 3] =
     [("product rule", nz_conic_chop_into_quads_pow2), ("exact rule", nz_cut_in_order), ("both axes", nz_cut_in_order_both)];
 
-fn cuts(kind: Kind, cleared: bool) {
-    let inputs = conics(kind);
-    let originals: Vec<Conic> = inputs
-        .iter()
-        .map(|(p, w)| Conic::new(Point::from_xy(p[0], p[1]), Point::from_xy(p[2], p[3]), Point::from_xy(p[4], p[5]), *w))
-        .collect();
-    let mut points = [Point::zero(); 33];
-    let theirs = median(CONICS, || {
-        for c in &originals {
+const ROOM: usize = nz_cut_room(NZ_MAX_LEVEL) as usize;
+
+// How many numbers a cut writes.
+fn room(level: u32) -> usize {
+    nz_cut_room(level) as usize
+}
+
+type Inputs = Vec<([f32; 6], f32)>;
+
+// A batch of the original's cuts, and one of the library's by a rule.
+fn theirs(inputs: &Inputs, level: u32, cleared: bool) -> impl FnMut() {
+    let at = |p: &[f32; 6], k: usize| Point::from_xy(p[2 * k], p[2 * k + 1]);
+    let conics: Vec<Conic> = inputs.iter().map(|(p, w)| Conic::new(at(p, 0), at(p, 1), at(p, 2), *w)).collect();
+    let mut points = [Point::zero(); ROOM / 2];
+    move || {
+        for c in &conics {
             if cleared {
-                points = black_box([Point::zero(); 33]);
+                black_box(&mut points[..room(level) / 2]).fill(Point::zero());
             }
-            black_box(black_box(c).chop_into_quads_pow2(4, &mut points));
+            black_box(black_box(c).chop_into_quads_pow2(level as u8, &mut points));
         }
-    });
-    let mut out = [0.0f32; 66];
-    for (rule, cut) in RULES {
-        let ours = median(CONICS, || {
-            for (p, w) in &inputs {
-                if cleared {
-                    out = black_box([0.0; 66]);
-                }
-                black_box(unsafe { cut(black_box(p).as_ptr(), 6, *w, 4, out.as_mut_ptr(), 66) });
+    }
+}
+
+fn ours(cut: Cut, inputs: &Inputs, level: u32, cleared: bool) -> impl FnMut() + '_ {
+    let mut out = [0.0f32; ROOM];
+    move || {
+        for (p, w) in inputs {
+            if cleared {
+                black_box(&mut out[..room(level)]).fill(0.0);
             }
-        });
+            black_box(unsafe { cut(black_box(p).as_ptr(), 6, *w, level, out.as_mut_ptr(), room(level) as u64) });
+        }
+    }
+}
+
+fn cuts(level: u32, kind: Kind, cleared: bool) {
+    let inputs = conics(kind);
+    let original = median(CONICS, theirs(&inputs, level, cleared));
+    for (rule, cut) in RULES {
+        let library = median(CONICS, ours(cut, &inputs, level, cleared));
         let kind = ["", ", overflowing", ", corrected"][kind as usize];
         let buffer = if cleared { "cleared" } else { "not cleared" };
-        row(&format!("cut at level 4, {}{}, {}", rule, kind, buffer), ours, theirs);
+        row(&format!("cut at level {}, {}{}, {}", level, rule, kind, buffer), library, original);
+    }
+}
+
+// What one written point costs at level 4 and at level 6.
+fn a_point(name: &str, [four, six]: [f64; 2]) {
+    let (four, six) = (four * 2.0 / room(4) as f64, six * 2.0 / room(6) as f64);
+    println!("{:<56} {:8.2} ns at level 4, {:8.2} ns at level 6, {:.2} times", format!("a point, {name}"), four, six, six / four);
+}
+
+fn points() {
+    let inputs = conics(Kind::Plain);
+    a_point("the original", medians(CONICS, theirs(&inputs, 4, false), theirs(&inputs, 6, false)));
+    for (rule, cut) in RULES {
+        a_point(rule, medians(CONICS, ours(cut, &inputs, 4, false), ours(cut, &inputs, 6, false)));
     }
 }
 
@@ -124,11 +165,14 @@ fn ground() {
 }
 
 fn main() {
-    for cleared in [false, true] {
-        for kind in [Kind::Plain, Kind::Overflowing, Kind::Corrected] {
-            cuts(kind, cleared);
+    for level in [4, 6] {
+        for cleared in [false, true] {
+            for kind in [Kind::Plain, Kind::Overflowing, Kind::Corrected] {
+                cuts(level, kind, cleared);
+            }
         }
     }
+    points();
     mapping();
     ground();
 }

@@ -17,10 +17,12 @@ static float places[128];
 static nz_len quads;
 static unsigned char *frame; // of the function that calls
 
-static void *in_order(void *p) {
+static void *in_order(void *level) {
     frame = __builtin_frame_address(0);
-    for (int k = 0; k < 3; k++) nz_cut_in_order_both(bridge, 6, weights[k], NZ_MAX_LEVEL, out, NZ_CUT_ROOM(NZ_MAX_LEVEL));
-    return p;
+    uint32_t n = *(uint32_t *)level;
+    for (int k = 0; k < 3; k++)
+        if (nz_cut_in_order_both(bridge, 6, weights[k], n, out, NZ_CUT_ROOM(NZ_MAX_LEVEL)) != NZ_OK) exit(1);
+    return level;
 }
 
 static void *automatic(void *p) {
@@ -29,13 +31,13 @@ static void *automatic(void *p) {
     return p;
 }
 
-static size_t deep(void *(*call)(void *)) {
+static size_t deep(void *(*call)(void *), void *with) {
     unsigned char *stack = aligned_alloc(4096, ROOM);
     memset(stack, PAINT, ROOM);
     pthread_attr_t attr;
     pthread_t thread;
     pthread_attr_init(&attr);
-    if (pthread_attr_setstack(&attr, stack, ROOM) || pthread_create(&thread, &attr, call, NULL)) exit(1);
+    if (pthread_attr_setstack(&attr, stack, ROOM) || pthread_create(&thread, &attr, call, with)) exit(1);
     pthread_join(thread, NULL);
     size_t k = 0;
     while (k < ROOM && stack[k] == PAINT) k++;
@@ -45,7 +47,8 @@ static size_t deep(void *(*call)(void *)) {
 }
 
 int main(void) {
-    printf("stack of nz_cut_in_order_both at level 4: %zu bytes\n", deep(in_order));
-    printf("stack of nz_auto_conic_to_quads: %zu bytes\n", deep(automatic));
+    uint32_t levels[2] = {4, NZ_MAX_LEVEL};
+    for (int k = 0; k < 2; k++) printf("stack of nz_cut_in_order_both at level %u: %zu bytes\n", (unsigned)levels[k], deep(in_order, &levels[k]));
+    printf("stack of nz_auto_conic_to_quads: %zu bytes\n", deep(automatic, NULL));
     return 0;
 }

@@ -44,12 +44,19 @@ int main(void) {
 
     answer = nz_cut_in_order_both(bridge, 6, 1, 1, points, 9);
     printf("nine numbers of room at level 1: answer %u\n", answer);
-    answer = nz_cut_in_order_both(bridge, 6, 1, 5, points, NZ_CUT_ROOM(NZ_MAX_LEVEL));
-    printf("level 5: answer %u\n", answer);
+    answer = nz_cut_in_order_both(bridge, 6, 1, NZ_MAX_LEVEL + 1, points, NZ_CUT_ROOM(NZ_MAX_LEVEL));
+    printf("level %u: answer %u\n", NZ_MAX_LEVEL + 1, answer);
 
+    // the level for a tolerance, up to the highest that a cut has, and a date from the cut at that level
     uint32_t level = 0;
-    answer = nz_conic_compute_quad_pow2(bridge, 6, 0.75f, 0.25f, &level);
-    printf("level for a quarter of a millisecond: %u, answer %u\n", level, answer);
+    answer = nz_conic_compute_quad_pow2(bridge, 6, 0.75f, 0.05f, NZ_MAX_LEVEL, &level);
+    printf("level for a twentieth of a millisecond: %u, answer %u\n", level, answer);
+    if (answer != NZ_OK || nz_cut_in_order_both(bridge, 6, 0.75f, level, points, NZ_CUT_ROOM(level)) != NZ_OK) return 1;
+    printf("stroke recorded at 1750: %.3f\n", date(points, (nz_len)1 << level, 1750));
+    answer = nz_conic_compute_quad_pow2(bridge, 6, 0.75f, 0.05f, NZ_MAX_CONIC_TO_QUAD_POW2, &level);
+    printf("level by the ceiling of the Rust: %u, answer %u\n", level, answer);
+    answer = nz_conic_compute_quad_pow2(bridge, 6, 0.75f, 0.05f, 5, &level);
+    printf("by the ceiling 5: answer %u\n", answer);
 
     const float m[6] = {1, 2, 3, 4, 5, 6};
     float p[2] = {1, 1};

@@ -49,11 +49,18 @@ fn main() {
     println!("the last stroke of a bridge that ends at 2438.7522: {:.4}", date(&points, 1, 2.0));
 
     println!("nine numbers of room at level 1: answer {}", cut(&bridge, 1.0, 1, &mut points[..9]));
-    println!("level 5: answer {}", cut(&bridge, 1.0, 5, &mut points));
+    println!("level {}: answer {}", NZ_MAX_LEVEL + 1, cut(&bridge, 1.0, NZ_MAX_LEVEL + 1, &mut points));
 
+    // the level for a tolerance, up to the highest that a cut has, and a date from the cut at that level
     let mut level = 0;
-    let answer = unsafe { nz_conic_compute_quad_pow2(bridge.as_ptr(), 6, 0.75, 0.25, &mut level) };
-    println!("level for a quarter of a millisecond: {level}, answer {answer}");
+    let mut choose = |ceiling: u32| (unsafe { nz_conic_compute_quad_pow2(bridge.as_ptr(), 6, 0.75, 0.05, ceiling, &mut level) }, level);
+    let (answer, fine) = choose(NZ_MAX_LEVEL);
+    println!("level for a twentieth of a millisecond: {fine}, answer {answer}");
+    assert!(answer == NZ_OK && cut(&bridge, 0.75, fine, &mut points) == NZ_OK);
+    println!("stroke recorded at 1750: {:.3}", date(&points, 1 << fine, 1750.0));
+    let (answer, level) = choose(NZ_MAX_CONIC_TO_QUAD_POW2);
+    println!("level by the ceiling of the Rust: {level}, answer {answer}");
+    println!("by the ceiling 5: answer {}", choose(5).0);
 
     let mut p = [1.0, 1.0];
     unsafe { nz_transform_map_point(&[1.0, 2.0, 3.0, 4.0, 5.0, 6.0], &mut p) };

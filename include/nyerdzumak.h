@@ -3,7 +3,7 @@
  *
  * ANSWERS. Every call ends, on any bits, and reads and writes what is said here and nothing else. A call that can refuse
  * returns one of the numbers below, NZ_OK or why it did nothing; of several that apply the first in this order is given:
- * NZ_OUT_OF_RANGE, NZ_LEVEL_TOO_HIGH or NZ_BAD_TOLERANCE, then NZ_BUFFER_TOO_SHORT, then the others. A call that cannot
+ * NZ_OUT_OF_RANGE or NZ_LEVEL_TOO_HIGH, then NZ_BAD_TOLERANCE, then NZ_BUFFER_TOO_SHORT, then the others. A call that cannot
  * refuse returns what it gives, or nothing. So every uint32_t that is called an answer here is worth testing.
  *
  * OUTPUTS. An output that has no value keeps its contents: all of them beside a refusal, and places for roots past those
@@ -28,11 +28,11 @@
 #include <stdbool.h>
 #include <stdint.h>
 
-#define NZ_VERSION "0.2.0"
+#define NZ_VERSION "0.3.0"
 
 /* the answers */
 #define NZ_OK 0u                  /* none below applies */
-#define NZ_LEVEL_TOO_HIGH 1u      /* level above NZ_MAX_LEVEL */
+#define NZ_LEVEL_TOO_HIGH 1u      /* level above NZ_MAX_LEVEL; in level choice, no such ceiling */
 #define NZ_BUFFER_TOO_SHORT 2u    /* a lent source or buffer is shorter than needed */
 #define NZ_POINT_NOT_FINITE 3u    /* a point of the conic fails nz_point_is_finite, in level choice only */
 #define NZ_BAD_TOLERANCE 4u       /* tolerance below 0 or not finite */
@@ -42,10 +42,13 @@
 #define NZ_OUT_OF_RANGE 8u        /* t outside its range, or NaN */
 #define NZ_ODD_LENGTH 9u          /* a buffer of points as numbers has odd length, in mapping only */
 
-/* the highest level of a cut, and the room in numbers that a cut at a level up to that one needs: 6, 10, 18, 34, 66; test a
- * level that is not yours before you use it here */
-#define NZ_MAX_LEVEL 4u
+/* the highest level of a cut, and the room in numbers that a cut at a level up to that one needs: 6, 10, 18, 34, 66, 130, 258;
+ * test a level that is not yours before you use it here */
+#define NZ_MAX_LEVEL 6u
 #define NZ_CUT_ROOM(level) (2u * ((2u << (level)) + 1u))
+
+/* the ceiling that tiny-skia-path has for the choice of a level; nz_conic_compute_quad_pow2 takes this one or NZ_MAX_LEVEL */
+#define NZ_MAX_CONIC_TO_QUAD_POW2 4u
 
 /* A length, in numbers: 64 bits on every target, also where size_t has 32. */
 typedef uint64_t nz_len;
@@ -59,8 +62,8 @@ extern "C" {
 
 /* ---- conics: six lent numbers, start, middle and end, and a weight ---- */
 
-/* Cuts a conic into 2^level quads by the exact between test. Writes 2 * 2^level + 1 points, which the quads share:
- * NZ_CUT_ROOM(level) numbers.
+/* Cuts a conic into 2^level quads by the exact between test, the level being 0 to NZ_MAX_LEVEL. Writes 2 * 2^level + 1 points,
+ * which the quads share: NZ_CUT_ROOM(level) numbers.
  *   The promise. From three points of finite coordinates whose middle y lies between the end ys or equals one of them,
  * whatever the weight, all written coordinates are finite, the first and the last point are the conic's own, and along the
  * points the ys keep one direction, rising or falling, ties allowed (falling where the last y is below the first: test that
@@ -89,14 +92,17 @@ uint32_t nz_cut_in_order_both(const float *NZ_RESTRICT src, nz_len src_len, floa
  * answers. */
 uint32_t nz_conic_chop_into_quads_pow2(const float *NZ_RESTRICT src, nz_len src_len, float weight, uint32_t level, float *NZ_RESTRICT out, nz_len out_len);
 
-/* The least level, from 1 on, at which an estimate of the quads' distance from the conic is within the tolerance; 4 at most,
- * where it need not be ((0,0), (0,1024), (0,0), weight 0, tolerance 0.25, or an estimate that is NaN). For weights below 0
- * the quads can be far off all the same.
- * Answers NZ_OK, NZ_BAD_TOLERANCE, NZ_BUFFER_TOO_SHORT or NZ_POINT_NOT_FINITE. */
-uint32_t nz_conic_compute_quad_pow2(const float *NZ_RESTRICT src, nz_len src_len, float weight, float tolerance, uint32_t *level);
+/* The least level, from 1 on, at which an estimate of the quads' distance from the conic is within the tolerance; at most the
+ * ceiling, where it need not be. The ceiling is NZ_MAX_LEVEL, or NZ_MAX_CONIC_TO_QUAD_POW2 for the level of tiny-skia-path;
+ * any other is refused with NZ_LEVEL_TOO_HIGH, a lower one too. (0,0), (0,1024), (0,0), weight 0, tolerance 0.25 has the level
+ * 6 by the one and 4 by the other, where it is not within the tolerance; an estimate that is NaN always gives the ceiling. For
+ * weights below 0 the quads can be far off all the same.
+ * Answers NZ_OK, NZ_LEVEL_TOO_HIGH, NZ_BAD_TOLERANCE, NZ_BUFFER_TOO_SHORT or NZ_POINT_NOT_FINITE. */
+uint32_t nz_conic_compute_quad_pow2(const float *NZ_RESTRICT src, nz_len src_len, float weight, float tolerance, uint32_t ceiling, uint32_t *level);
 
-/* The cut of nz_conic_chop_into_quads_pow2 at the level for a tolerance of 0.25: 64 places for points, 0 where none is
- * written, and the number of quads. Answers NZ_OK, NZ_BUFFER_TOO_SHORT or NZ_POINT_NOT_FINITE. */
+/* The cut of nz_conic_chop_into_quads_pow2 at the level for a tolerance of 0.25, by the ceiling NZ_MAX_CONIC_TO_QUAD_POW2: 64
+ * places for points, 0 where none is written, and the number of quads, 16 at most. Answers NZ_OK, NZ_BUFFER_TOO_SHORT or
+ * NZ_POINT_NOT_FINITE. */
 uint32_t nz_auto_conic_to_quads(const float *NZ_RESTRICT src, nz_len src_len, float weight, float out[128], nz_len *quads);
 
 /* Both halves of a conic as the formulas give them: three points and a weight for each, 7 numbers.

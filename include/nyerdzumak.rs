@@ -1,7 +1,7 @@
 // The library's calls for a Rust program that links it: `include!` this file, or name it by `#[path]`; it is taken by the
 // editions 2021 and 2024, from Rust 1.82 on. Link with `-L native=FOLDER -l static=nyerdzumak`. What each call does, and
 // what its caller owes it, stands in nyerdzumak.h. A lent slice is a pointer that is not null and its length in numbers.
-pub const NZ_VERSION: &str = "0.2.0";
+pub const NZ_VERSION: &str = "0.3.0";
 
 pub const NZ_OK: u32 = 0;
 pub const NZ_LEVEL_TOO_HIGH: u32 = 1;
@@ -14,7 +14,9 @@ pub const NZ_INVERSE_NOT_FINITE: u32 = 7;
 pub const NZ_OUT_OF_RANGE: u32 = 8;
 pub const NZ_ODD_LENGTH: u32 = 9;
 
-pub const NZ_MAX_LEVEL: u32 = 4;
+// The highest level of a cut, and the ceiling that tiny-skia-path has for the choice of a level.
+pub const NZ_MAX_LEVEL: u32 = 6;
+pub const NZ_MAX_CONIC_TO_QUAD_POW2: u32 = 4;
 
 // The room in numbers that a cut at a level up to NZ_MAX_LEVEL needs.
 pub const fn nz_cut_room(level: u32) -> u64 {
@@ -25,7 +27,7 @@ unsafe extern "C" {
     pub fn nz_cut_in_order(src: *const f32, src_len: u64, weight: f32, level: u32, out: *mut f32, out_len: u64) -> u32;
     pub fn nz_cut_in_order_both(src: *const f32, src_len: u64, weight: f32, level: u32, out: *mut f32, out_len: u64) -> u32;
     pub fn nz_conic_chop_into_quads_pow2(src: *const f32, src_len: u64, weight: f32, level: u32, out: *mut f32, out_len: u64) -> u32;
-    pub fn nz_conic_compute_quad_pow2(src: *const f32, src_len: u64, weight: f32, tolerance: f32, level: *mut u32) -> u32;
+    pub fn nz_conic_compute_quad_pow2(src: *const f32, src_len: u64, weight: f32, tolerance: f32, ceiling: u32, level: *mut u32) -> u32;
     pub fn nz_auto_conic_to_quads(src: *const f32, src_len: u64, weight: f32, out: *mut [f32; 128], quads: *mut u64) -> u32;
     pub fn nz_conic_chop(src: *const f32, src_len: u64, weight: f32, halves: *mut [f32; 14]) -> u32;
     pub fn nz_between_product(a: f32, b: f32, c: f32) -> bool;

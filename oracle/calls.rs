@@ -10,6 +10,7 @@ use original::{Point, Transform};
 
 include!("../include/nyerdzumak.rs");
 
+// The level is a ceiling where a level is chosen.
 #[derive(Clone)]
 pub struct Case {
     pub f: [f32; 12],
@@ -137,9 +138,9 @@ pub const CALLS: &[Call] = &[
         o.number(unsafe { nz_conic_chop(c.f.as_ptr(), c.lent(0), c.f[6], &mut h) });
         o.computed(&h);
     }, theirs: halves },
-    Call { name: "conic_compute_quad_pow2", share: 5, listed: 7000, make: conic, ours: |c, o| {
+    Call { name: "conic_compute_quad_pow2", share: 5, listed: 7000, make: conic_and_ceiling, ours: |c, o| {
         let mut n = 77;
-        o.number(unsafe { nz_conic_compute_quad_pow2(c.f.as_ptr(), c.lent(0), c.f[6], c.f[7], &mut n) });
+        o.number(unsafe { nz_conic_compute_quad_pow2(c.f.as_ptr(), c.lent(0), c.f[6], c.f[7], c.level, &mut n) });
         o.number(n);
     }, theirs: level },
     Call { name: "conic_chop_into_quads_pow2", share: 8, listed: 8500, make: conic, ours: |c, o| cut(c, o, nz_conic_chop_into_quads_pow2), theirs: by_product },

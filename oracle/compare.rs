@@ -1,10 +1,11 @@
 // Every exported call beside the original, in one process, on inputs from a seed. See calls.rs for what is compared,
-// outputs.rs for what counts as the same, and promise.rs for what is tested beside it.
+// outputs.rs for what counts as the same, promise.rs for what is tested beside it, and levels.rs for what is counted.
 // Some of the modules serve the list alone.
 #![allow(dead_code)]
 
 mod calls;
 mod inputs;
+mod levels;
 mod of_conics;
 mod of_curves;
 mod of_transforms;
@@ -13,6 +14,7 @@ mod promise;
 
 use calls::{Call, Case, CALLS};
 use inputs::Inputs;
+use levels::Levels;
 use outputs::Output;
 use promise::{Kinds, Promise};
 
@@ -60,13 +62,14 @@ struct Tally {
     done: Vec<[u64; 3]>,
     promises: Vec<Promise>,
     kinds: Kinds,
+    levels: Levels,
     ours: Output,
     theirs: Output,
 }
 
 impl Tally {
     fn new() -> Tally {
-        Tally { done: vec![[0; 3]; CALLS.len()], promises: promise::promises(), kinds: Kinds::new(), ours: Output::new(), theirs: Output::new() }
+        Tally { done: vec![[0; 3]; CALLS.len()], promises: promise::promises(), kinds: Kinds::new(), levels: Levels::default(), ours: Output::new(), theirs: Output::new() }
     }
 
     fn count(&mut self, k: usize, case: &Case) {
@@ -76,6 +79,7 @@ impl Tally {
         done[0] += 1;
         done[1] += theirs.minus_zero() as u64;
         done[2] += !agree as u64;
+        self.levels.count(k, case, ours);
         if k == self.kinds.call {
             self.kinds.count(case, ours);
         }
@@ -91,7 +95,7 @@ impl Tally {
         }
     }
 
-    // The table; whether there was a difference or a promise failed.
+    // The table; whether there was a difference, a promise failed, or a level was never met.
     fn print(&self) -> bool {
         for (call, d) in CALLS.iter().zip(&self.done).filter(|(_, d)| d[0] > 0) {
             println!("{:>11} inputs, {:>9} answered with −0, {} differences: {}", d[0], d[1], d[2], call.name);
@@ -99,10 +103,11 @@ impl Tally {
         if self.done[self.kinds.call][0] > 0 {
             self.kinds.print();
         }
+        self.levels.print();
         self.promises.iter().filter(|p| self.done[p.call][0] > 0).for_each(Promise::print);
         let sum = |of: usize| self.done.iter().map(|d| d[of]).sum::<u64>();
         println!("{} inputs, {} differences", sum(0), sum(2));
-        sum(2) > 0 || self.promises.iter().any(Promise::failed)
+        sum(2) > 0 || self.promises.iter().any(Promise::failed) || self.levels.failed()
     }
 }
 

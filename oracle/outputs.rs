@@ -7,9 +7,12 @@ enum Kind {
     Computed, // the same bits, but that any NaN equals any NaN
 }
 
+// As many as a cut's: its answer, and its buffer.
+const WORDS: usize = 1 + crate::of_conics::LENT;
+
 pub struct Output {
-    words: [u32; 192],
-    kinds: [Kind; 192],
+    words: [u32; WORDS],
+    kinds: [Kind; WORDS],
     len: usize,
 }
 
@@ -24,7 +27,7 @@ pub fn buffer<const N: usize>() -> [f32; N] {
 
 impl Output {
     pub fn new() -> Output {
-        Output { words: [0; 192], kinds: [Kind::Bits; 192], len: 0 }
+        Output { words: [0; WORDS], kinds: [Kind::Bits; WORDS], len: 0 }
     }
 
     pub fn clear(&mut self) {

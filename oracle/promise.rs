@@ -1,7 +1,7 @@
 // The promise of order, tested on what the library wrote: no judge is asked. And of the call that puts both axes in order,
 // what kinds of conics it was tested on.
 use crate::calls::{nz_cut_in_order, Case, CALLS};
-use crate::of_conics::{cut, room};
+use crate::of_conics::{cut, room, HIGHEST};
 use crate::outputs::Output;
 
 const X: usize = 0;
@@ -38,7 +38,7 @@ pub fn promises() -> Vec<Promise> {
 }
 
 fn is_cut(c: &Case) -> bool {
-    c.level <= 4 && c.len[0] >= 6 && c.len[1] >= room(c.level)
+    c.level <= HIGHEST && c.len[0] >= 6 && c.len[1] >= room(c.level)
 }
 
 fn is_finite(c: &Case) -> bool {

@@ -7,6 +7,11 @@ use conic::Refusal;
 use conic_cut::Cut;
 use libc::STDOUT_FILENO;
 
+// The points of a cut at the highest level, and the numbers that they are.
+const MOST: usize = 129;
+
+const ROOM: usize = 2 * MOST;
+
 fn text(t: &[u8]) {
     io::write_all(STDOUT_FILENO, t);
 }
@@ -35,10 +40,10 @@ fn point(x: f32, y: f32) {
     text(b"\n");
 }
 
-// Writes the first `count` points of the buffer, which has room for 33.
-fn points(out: &[f32; 66], count: usize) {
+// Writes the first `count` points of the buffer.
+fn points(out: &[f32; ROOM], count: usize) {
     let mut i = 0;
-    while i < 33 {
+    while i < MOST {
         if i < count {
             point(out[2 * i], out[2 * i + 1]);
         }
@@ -55,7 +60,7 @@ fn note(line: u64, a: f32, b: f32, c: f32, why: &[u8]) {
 }
 
 // Writes the points of a cut, and before them what no promise keeps.
-fn written(line: u64, c: Conic, out: &[f32; 66], count: usize) {
+fn written(line: u64, c: Conic, out: &[f32; ROOM], count: usize) {
     io::print_decimal(STDOUT_FILENO, count as u64);
     text(b" points\n");
     note(
@@ -81,13 +86,13 @@ fn refused(why: Refusal) {
     text(b"\n");
 }
 
-// Cuts a bridge by its rule, that of both axes; level 4 has 33 points.
+// Cuts a bridge by its rule, that of both axes.
 fn cut(line: u64, b: Bridge) {
-    let mut out = [0.0f32; 66];
+    let mut out = [0.0f32; ROOM];
     let conic = b.conic;
     match conic_cut::chop_into_quads_pow2(&mut out, conic, b.level) {
         Cut::Quads(n) => {
-            let count = if n < 17 { 2 * n + 1 } else { 33 };
+            let count = if n < 65 { 2 * n + 1 } else { MOST };
             written(line, conic, &out, count);
         }
         Cut::Refused(why) => refused(why),

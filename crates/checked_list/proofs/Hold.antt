@@ -14,7 +14,7 @@ use Rattle.conic.specs.Mend.{nearerOf, orderedOf, mendedOf}
 use Rattle.conic.specs.Rule.{testAlong}
 use Rattle.point.specs.Numbers.{flat}
 use Rattle.conic_cut.specs.Cut.{cutPoints, allFinite, pinned, written, cutAnswer}
-use Rattle.checked_list.specs.Figures.{Figure, root, narrowed, absolute, roots, between, cut, refused}
+use Rattle.checked_list.specs.Figures.{Figure, root, narrowed, absolute, roots, between, cut, answered, refused}
 use Rattle.checked_list.specs.Figures.{bits, at, corner, Holds, AllHold, figures}
 
 -- what is left to compute of a figure: a root is nearest where it is the computed one
@@ -25,6 +25,7 @@ Computed (absolute x r) = Holds (absolute x r)
 Computed (roots a b c l) = Holds (roots a b c l)
 Computed (between t a b c answer) = Holds (between t a b c answer)
 Computed (cut u w n quads whole l) = Holds (cut u w n quads whole l)
+Computed (answered n len quads) = Holds (answered n len quads)
 Computed (refused n len number) = Holds (refused n len number)
 
 abbrev AllComputed : List Figure → Type 0
@@ -38,6 +39,7 @@ holds (absolute x r) h = h
 holds (roots a b c l) h = h
 holds (between t a b c answer) h = h
 holds (cut u w n quads whole l) h = h
+holds (answered n len quads) h = h
 holds (refused n len number) h = h
 
 hold : (l : List Figure) → AllComputed l → AllHold l
@@ -56,7 +58,7 @@ unfolding
 all-computed =
     (tt & refl) & (tt & refl) & (tt & refl) & (tt & refl) & (tt & refl) & refl & refl & refl & refl & refl
     & refl & refl & refl & refl & refl & refl & refl & refl & refl
-    & (refl & refl & refl) & (refl & refl & refl) & (refl & refl & refl) & (refl & refl & refl) & (refl & refl & refl) & refl & refl & tt
+    & (refl & refl & refl) & (refl & refl & refl) & (refl & refl & refl) & (refl & refl & refl) & (refl & refl & refl) & refl & refl & refl & refl & tt
 
 pub all-hold : AllHold figures
 all-hold = hold figures all-computed

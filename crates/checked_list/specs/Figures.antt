@@ -34,6 +34,8 @@ pub data Figure : Type 0 where
   between : Test → ℕ → ℕ → ℕ → Bool → Figure
   -- the conic below, of a weight, cut by the rule at a level: how many quads, whether no point is pinned, and the numbers of the points
   cut : Rule → ℕ → ℕ → ℕ → Bool → List ℕ → Figure
+  -- a level, how many numbers there is room for, and how many quads a cut has
+  answered : ℕ → ℕ → ℕ → Figure
   -- a level, how many numbers there is room for, and the number of the refusal in docs/RULES.md, "Answer numbers"
   refused : ℕ → ℕ → ℕ → Figure
 
@@ -58,6 +60,7 @@ Holds (between t a b c answer) = passes t (ofBits binary32 a) (ofBits binary32 b
 Holds (cut u w n quads whole l) =
     (cutAnswer n (room n) false ≡ Quads quads)
     × ((allFinite (plain chopByRule n (corner w u)) ≡ whole) × (bits (flat (written chopByRule n (corner w u))) ≡ l))
+Holds (answered n len quads) = cutAnswer n len false ≡ Quads quads
 Holds (refused n len number) = numberOfCut (cutAnswer n len false) ≡ number
 
 abbrev pub AllHold : List Figure → Type 0
@@ -99,7 +102,9 @@ figures =
     ∷ cut Exact 0x3f80_0000 1 2 true (0 ∷ 0 ∷ 0x4000_0000 ∷ 0 ∷ 0x4040_0000 ∷ 0x3f80_0000 ∷ 0x4080_0000 ∷ 0x4000_0000 ∷ 0x4080_0000 ∷ 0x4080_0000 ∷ [])
     -- NaN weight, both axes: (0,0), (0,0), (4,4), (4,4), (4,4), not pinned
     ∷ cut BothAxes 0x7fc0_0000 1 2 true (0 ∷ 0 ∷ 0 ∷ 0 ∷ 0x4080_0000 ∷ 0x4080_0000 ∷ 0x4080_0000 ∷ 0x4080_0000 ∷ 0x4080_0000 ∷ 0x4080_0000 ∷ [])
-    -- nine numbers of room at level 1, and level 5
+    -- nine numbers of room at level 1; level 5, level 6 with just the room, and level 7
     ∷ refused 1 9 2
-    ∷ refused 5 1000 1
+    ∷ answered 5 1000 32
+    ∷ answered 6 258 64
+    ∷ refused 7 1000 1
     ∷ []

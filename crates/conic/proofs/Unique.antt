@@ -2,6 +2,7 @@
 use mathlib.Core.Path.{_≡_, sym, _∙_}
 use mathlib.Core.Bool.{Bool}
 use mathlib.Core.List.{List}
+use Prim.Native.Nat.{ℕ}
 use lib.Ieee.{Float}
 use Rattle.conic.specs.declared.Conic.{Conic}
 use Rattle.conic.specs.declared.FromPoints.{FromPoints}
@@ -13,5 +14,5 @@ use Rattle.conic.specs.Source.{Taken}
 pub one-taken : (l : List Float) (w : Float) (u : Rule) (r s : FromPoints) → Taken l w u r → Taken l w u s → r ≡ s
 one-taken l w u r s p q = p .answer ∙ sym (q .answer)
 
-pub one-chosen : (short : Bool) (c : Conic) (t : Float) (r s : Level) → Chosen short c t r → Chosen short c t s → r ≡ s
-one-chosen short c t r s p q = p .answer ∙ sym (q .answer)
+pub one-chosen : (m : ℕ) (short : Bool) (c : Conic) (t : Float) (r s : Level) → Chosen m short c t r → Chosen m short c t s → r ≡ s
+one-chosen m short c t r s p q = p .answer ∙ sym (q .answer)

@@ -1,9 +1,10 @@
--- The level choice: how far one quad would be from a conic, and how often that is quartered until it is within the tolerance
--- (docs/RULES.md, "Conics"). Definitions only.
+-- The highest levels, and the level choice: how far one quad would be from a conic, and how often that is quartered until it is
+-- within the tolerance (docs/RULES.md, "Conics"). Definitions only.
 use Prim.Native.Nat.{ℕ, zero, suc}
 use mathlib.Core.Path.{_≡_}
 use mathlib.Core.Bool.{Bool, not, cond, _&&_, _||_}
 use mathlib.Core.List.{[], _∷_}
+use lib.Dec.{eqb}
 use lib.Ieee.{Float, binary32, lt, le}
 use lib.Ieee.Scale.{finite}
 use Rattle.float_laws.specs.Formula.{_⊕_, _⊖_, _⊗_, _⊘_, zero32, quarter32, one32, two32, four32}
@@ -13,11 +14,20 @@ use Rattle.conic.specs.declared.Conic.{Conic}
 use Rattle.conic.specs.declared.Level.{Level}
 use Rattle.conic.specs.declared.Level.the-variants.{Pow2, Refused}
 use Rattle.conic.specs.declared.Refusal.{Refusal}
-use Rattle.conic.specs.declared.Refusal.the-variants.{BufferTooShort, PointNotFinite, BadTolerance}
+use Rattle.conic.specs.declared.Refusal.the-variants.{LevelTooHigh, BufferTooShort, PointNotFinite, BadTolerance}
 use Rattle.conic.specs.Refusal.{numberOfRefusal, valuesOfRefusal, numberOfLevel, valuesOfLevel}
 
+-- the highest level of a cut
 abbrev pub ceiling : ℕ
-ceiling = 4
+ceiling = 6
+
+-- the crate's own ceiling of a level choice
+abbrev pub crateCeiling : ℕ
+crateCeiling = 4
+
+-- a level choice has one of the two for its ceiling
+abbrev pub badCeiling : ℕ → Bool
+badCeiling m = not (eqb m crateCeiling) && not (eqb m ceiling)
 
 -- (a − 2b) + c
 abbrev pub bendOf : Float → Float → Float → Float
@@ -40,8 +50,9 @@ abbrev pub atLeastOne : ℕ → ℕ
 atLeastOne zero = 1
 atLeastOne (suc n) = suc n
 
-unfoldable pub levelOf : Conic → Float → ℕ
-levelOf c t = atLeastOne (quarteringsOf ceiling (errorOf c) t)
+-- by the ceiling m
+unfoldable pub levelOf : ℕ → Conic → Float → ℕ
+levelOf m c t = atLeastOne (quarteringsOf m (errorOf c) t)
 
 abbrev pub badTolerance : Float → Bool
 badTolerance t = lt t zero32 || not (finite t)
@@ -49,18 +60,19 @@ badTolerance t = lt t zero32 || not (finite t)
 abbrev pub conicFinite : Conic → Bool
 conicFinite c = (pointFinite (c .p0) && pointFinite (c .p1)) && pointFinite (c .p2)
 
--- the first refusal that applies, 4, then 2 where a lent source is short, then 3; and else what is well
-abbrev pub refuseLevel : {A : Type 0} → Bool → Conic → Float → (Refusal → A) → A → A
-refuseLevel short c t refused well =
-    cond (badTolerance t) (refused BadTolerance)
+-- the first refusal that applies, 1, then 4, then 2 where a lent source is short, then 3; and else what is well
+abbrev pub refuseLevel : {A : Type 0} → ℕ → Bool → Conic → Float → (Refusal → A) → A → A
+refuseLevel m short c t refused well =
+    cond (badCeiling m) (refused LevelTooHigh)
+    (cond (badTolerance t) (refused BadTolerance)
     (cond short (refused BufferTooShort)
-    (cond (conicFinite c) well (refused PointNotFinite)))
+    (cond (conicFinite c) well (refused PointNotFinite))))
 
-unfoldable pub levelAnswer : Bool → Conic → Float → Level
-levelAnswer short c t = refuseLevel short c t Refused (Pow2 (levelOf c t))
+unfoldable pub levelAnswer : ℕ → Bool → Conic → Float → Level
+levelAnswer m short c t = refuseLevel m short c t Refused (Pow2 (levelOf m c t))
 
 -- the answer, its number and its values; two answers that meet it are one (`one-chosen` of proofs/Unique)
-pub record Chosen (short : Bool) (c : Conic) (t : Float) (r : Level) : Type 0 where
-  pub answer : r ≡ levelAnswer short c t
-  pub number : numberOfLevel r ≡ refuseLevel short c t numberOfRefusal 0
-  pub values : valuesOfLevel r ≡ refuseLevel short c t valuesOfRefusal (levelOf c t ∷ [])
+pub record Chosen (m : ℕ) (short : Bool) (c : Conic) (t : Float) (r : Level) : Type 0 where
+  pub answer : r ≡ levelAnswer m short c t
+  pub number : numberOfLevel r ≡ refuseLevel m short c t numberOfRefusal 0
+  pub values : valuesOfLevel r ≡ refuseLevel m short c t valuesOfRefusal (levelOf m c t ∷ [])

@@ -113,8 +113,11 @@ pub fn between_exact(a: f32, b: f32, c: f32) -> bool
 }
 
 impl Conic {
-    // The highest level that a conic is cut at.
+    // The crate's own ceiling of a level choice, which is that of `AutoConicToQuads`.
     pub const MAX_CONIC_TO_QUAD_POW2: u32 = 4;
+
+    // The highest level of a cut.
+    pub const MAX_CUT_LEVEL: u32 = 6;
 
     // The conic of these points, this weight and this rule.
     pub fn new(p0: Point, p1: Point, p2: Point, weight: f32, rule: Rule) -> Self
@@ -175,29 +178,37 @@ impl Conic {
     }
 
     // The least level, from 1 on, at which the estimate of the quads' distance from the conic is within the tolerance; at
-    // most 4, where it need not be. Refused for a bad tolerance, and then for a point that is not finite.
-    pub fn compute_quad_pow2(self, tolerance: f32) -> Level
-        ensures { λ r. ⌜ Chosen false self tolerance r ⌝ }
+    // most the ceiling, where it need not be. Refused for a ceiling that is neither of the two above, then for a bad
+    // tolerance, and then for a point that is not finite.
+    pub fn compute_quad_pow2(self, tolerance: f32, ceiling: u32) -> Level
+        ensures { λ r. ⌜ Chosen ceiling false self tolerance r ⌝ }
     {
+        if leveling::is_bad_ceiling(ceiling) {
+            return Level::Refused(Refusal::LevelTooHigh);
+        }
         if leveling::is_bad(tolerance) {
             return Level::Refused(Refusal::BadTolerance);
         }
         if !leveling::is_finite(self) {
             return Level::Refused(Refusal::PointNotFinite);
         }
-        Level::Pow2(leveling::level(self, tolerance))
+        Level::Pow2(leveling::level(self, tolerance, ceiling))
     }
 
     // The same of the conic of the first six numbers. Fewer are refused after a bad tolerance. A rule has no part in it.
-    pub fn compute_quad_pow2_from(src: &[f32], weight: f32, tolerance: f32) -> Level
-        ensures { λ r. ⌜ Chosen (shortSource (now (src .entry))) (conicOf (now (src .entry)) weight Product) tolerance r ⌝ }
+    pub fn compute_quad_pow2_from(src: &[f32], weight: f32, tolerance: f32, ceiling: u32) -> Level
+        ensures { λ r. ⌜ Chosen ceiling (shortSource (now (src .entry))) (conicOf (now (src .entry)) weight Product) tolerance r ⌝ }
     {
+        let no_ceiling = leveling::is_bad_ceiling(ceiling);
+        if no_ceiling {
+            return Level::Refused(Refusal::LevelTooHigh);
+        }
         let bad = leveling::is_bad(tolerance);
         if bad {
             return Level::Refused(Refusal::BadTolerance);
         }
         match Conic::from_points(src, weight, Rule::Product) {
-            FromPoints::Made(c) => c.compute_quad_pow2(tolerance),
+            FromPoints::Made(c) => c.compute_quad_pow2(tolerance, ceiling),
             FromPoints::Refused(r) => Level::Refused(r),
         }
     }

@@ -12,7 +12,7 @@ use Rattle.conic.specs.declared.Level.the-variants as L
 use Rattle.conic.specs.declared.Refusal.{Refusal}
 use Rattle.conic.specs.declared.Refusal.the-variants.{PointNotFinite}
 use Rattle.conic.specs.Chop.{chopByRule}
-use Rattle.conic.specs.Level.{ceiling, badTolerance, conicFinite, levelAnswer}
+use Rattle.conic.specs.Level.{ceiling, crateCeiling, badTolerance, conicFinite, levelAnswer}
 use Rattle.conic.proofs.Levels.{level-low}
 use Rattle.conic_cut.specs.declared.AutoConicToQuads.{AutoConicToQuads}
 use Rattle.conic_cut.specs.declared.Cut.{Cut}
@@ -33,25 +33,26 @@ by-refusal : (b : Bool) (m : ℕ) (q : Refusal) → cond b (L.Pow2 m) (L.Refused
 by-refusal true m q e = let z : _≡_ {A = ℕ} 0 1 = cc in absurd (omega arith)
 by-refusal false m q e = (refl, cc)
 
-answer-is : (c : Conic) → levelAnswer false c quarter32 ≡ cond (conicFinite c) (L.Pow2 (autoLevel c)) (L.Refused PointNotFinite)
+answer-is : (c : Conic) → levelAnswer crateCeiling false c quarter32 ≡ cond (conicFinite c) (L.Pow2 (autoLevel c)) (L.Refused PointNotFinite)
 unfolding levelAnswer
 answer-is c = rw quarter-good
 
-room-there : (n : ℕ) → n ≤ ceiling → room n ≤ length zeros
+room-there : (n : ℕ) → n ≤ crateCeiling → room n ≤ length zeros
 unfolding zeros
 room-there n h = omega (arith, pow-mono h)
 
-pub auto-cut : (c : Conic) (n : ℕ) → levelAnswer false c quarter32 ≡ L.Pow2 n
+pub auto-cut : (c : Conic) (n : ℕ) → levelAnswer crateCeiling false c quarter32 ≡ L.Pow2 n
     → (cutAnswer n (length zeros) false ≡ autoAnswer c) × (cutBuffer chopByRule n c false zeros ≡ autoPoints c)
 unfolding autoAnswer autoPoints
 auto-cut c n e =
     let t = by-level (conicFinite c) (autoLevel c) n (sym (answer-is c) ∙ e) in
-    let h = level-low c quarter32 in
-    let fits = room-there (autoLevel c) h in
+    let low = level-low crateCeiling c quarter32 (omega arith) in
+    let h : autoLevel c ≤ ceiling = omega (arith, low) in
+    let fits = room-there (autoLevel c) low in
     rw (t .0, t .1)
     (sym (answer-cut chopByRule (autoLevel c) c zeros h fits), buffer-cut chopByRule (autoLevel c) c zeros h fits)
 
-pub auto-refused : (c : Conic) (q : Refusal) → levelAnswer false c quarter32 ≡ L.Refused q → (Refused q ≡ autoAnswer c) × (zeros ≡ autoPoints c)
+pub auto-refused : (c : Conic) (q : Refusal) → levelAnswer crateCeiling false c quarter32 ≡ L.Refused q → (Refused q ≡ autoAnswer c) × (zeros ≡ autoPoints c)
 unfolding autoAnswer autoPoints
 auto-refused c q e = let t = by-refusal (conicFinite c) (autoLevel c) q (sym (answer-is c) ∙ e) in rw (t .0, t .1) (refl, refl)
 

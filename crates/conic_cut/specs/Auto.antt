@@ -1,5 +1,5 @@
--- What `AutoConicToQuads` answers of a conic: the cut at the level for a tolerance of a quarter. The call gives it the product rule
--- (docs/RULES.md, "Conics"). Definitions only.
+-- What `AutoConicToQuads` answers of a conic: the cut at the level for a tolerance of a quarter, by the crate's own ceiling. The call
+-- gives it the product rule (docs/RULES.md, "Conics"). Definitions only.
 use Prim.Native.Nat.{ℕ, _^_}
 use mathlib.Core.Path.{_≡_}
 use mathlib.Core.Bool.{cond}
@@ -11,7 +11,7 @@ use Rattle.conic.specs.declared.Conic.{Conic}
 use Rattle.conic.specs.declared.Refusal.{Refusal}
 use Rattle.conic.specs.declared.Refusal.the-variants.{PointNotFinite}
 use Rattle.conic.specs.Chop.{chopByRule}
-use Rattle.conic.specs.Level.{conicFinite, levelOf}
+use Rattle.conic.specs.Level.{crateCeiling, conicFinite, levelOf}
 use Rattle.conic_cut.specs.declared.AutoConicToQuads.{AutoConicToQuads}
 use Rattle.conic_cut.specs.declared.Cut.{Cut}
 use Rattle.conic_cut.specs.declared.Cut.the-variants.{Quads, Refused}
@@ -23,7 +23,7 @@ unfoldable pub zeros : List Float
 zeros = replicate 128 zero32
 
 abbrev pub autoLevel : Conic → ℕ
-autoLevel c = levelOf c quarter32
+autoLevel c = levelOf crateCeiling c quarter32
 
 -- 3 where a point is not finite, and else what is well
 abbrev pub refuseAuto : {A : Type 0} → Conic → (Refusal → A) → A → A

@@ -6,10 +6,11 @@ use mathlib.Core.List.{List}
 use lib.ListN.{getD, set}
 use lib.Ieee.{Float, nan}
 use Rattle.conic.specs.Chop.{scaleOf, weightOf}
+use Rattle.conic.specs.Level.{ceiling}
 
--- the highest level that there is a rung for
+-- the highest level that there is a rung for, which is that of a cut
 abbrev pub deepest : ℕ
-deepest = 6
+deepest = ceiling
 
 -- l with the rungs of a conic of weight w that is cut at the level n; those of level 1 stand first
 unfoldable pub rungsOf : List Float → ℕ → Float → List Float

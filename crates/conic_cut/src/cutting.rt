@@ -12,9 +12,8 @@ use conic::Conic;
 use conic::depth::Depth;
 use point::Point;
 
-// The highest level that the functions here are proved for. The calls stop at their ceiling, and were that raised up to
-// this level, nothing here would change.
-const DEEPEST: usize = 6;
+// The highest level of a cut. Nothing here is proved level by level, so that none of it looks at the number.
+const DEEPEST: usize = Conic::MAX_CUT_LEVEL as usize;
 // Two numbers for each level.
 const RUNGS: usize = 2 * DEEPEST;
 

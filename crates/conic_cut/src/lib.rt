@@ -40,12 +40,12 @@ impl Cut {
 }
 
 // Cuts c by its rule into 2^level quads, which share their ends: x and y of each point, from the start of `out` on.
-// A level above 4 is refused, and then room for fewer than 2^level * 2 + 1 points; `out` is untouched.
+// A level above 6 is refused, and then room for fewer than 2^level * 2 + 1 points; `out` is untouched.
 pub fn chop_into_quads_pow2(out: &mut [f32], c: Conic, level: u32) -> Cut
     ensures { λ r. ⌜ CutInto chopByRule level c false (now (out .entry)) r (now (out .exit)) ⌝ }
     ensures order { λ _. ⌜ OrderKept level c (now (out .entry)) (now (out .exit)) ⌝ }
 {
-    if Conic::MAX_CONIC_TO_QUAD_POW2 < level {
+    if Conic::MAX_CUT_LEVEL < level {
         return Cut::Refused(Refusal::LevelTooHigh);
     }
     let quads = cutting::quads(level);
@@ -69,7 +69,7 @@ pub fn chop_into_quads_pow2_from(
     ensures order { λ _. ⌜ (6 ≤ length (now (src .entry))
         → OrderKept level (conicOf (now (src .entry)) weight rule) (now (out .entry)) (now (out .exit))) ⌝ }
 {
-    if level > Conic::MAX_CONIC_TO_QUAD_POW2 {
+    if level > Conic::MAX_CUT_LEVEL {
         return Cut::Refused(Refusal::LevelTooHigh);
     }
     match Conic::from_points(src, weight, rule) {
@@ -78,7 +78,8 @@ pub fn chop_into_quads_pow2_from(
     }
 }
 
-// A cut at the level that a tolerance of a quarter chooses: 64 places for points, zero where none is written.
+// A cut at the level that a tolerance of a quarter chooses, by the crate's own ceiling: 64 places for points, zero where none is
+// written.
 pub struct AutoConicToQuads {
     pub points: [f32; 128],
     pub answer: Cut,
@@ -91,7 +92,7 @@ impl AutoConicToQuads {
     {
         let c = Conic::new(p0, p1, p2, weight, Rule::Product);
         let mut points = [0.0f32; 128];
-        let answer = match c.compute_quad_pow2(0.25) {
+        let answer = match c.compute_quad_pow2(0.25, Conic::MAX_CONIC_TO_QUAD_POW2) {
             Level::Pow2(level) => chop_into_quads_pow2(&mut points, c, level),
             Level::Refused(r) => Cut::Refused(r),
         };

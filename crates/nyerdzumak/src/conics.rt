@@ -95,21 +95,25 @@ fn give_level(answer: Level, level: &mut u32) -> u32
     }
 }
 
-// The least level, from 1 on, at which the estimated distance of the quads from the conic is within the tolerance; 4 at
-// most, where it need not be.
+// The least level, from 1 on, at which the estimated distance of the quads from the conic is within the tolerance; at most the
+// ceiling, 4 or 6, where it need not be.
 #[no_mangle]
 pub extern "C" fn nz_conic_compute_quad_pow2(
     src: &[f32],
     weight: f32,
     tolerance: f32,
+    ceiling: u32,
     level: &mut u32,
 ) -> u32
-    ensures { λ r. ⌜ r ≡ refuseLevel (shortSource (now (src .entry))) (conicOf (now (src .entry)) weight Product) tolerance numberOfRefusal 0 ⌝ }
+    ensures { λ r. ⌜ r ≡ refuseLevel ceiling (shortSource (now (src .entry))) (conicOf (now (src .entry)) weight Product) tolerance numberOfRefusal 0 ⌝ }
     ensures level { λ _. ⌜ now (level .exit) ≡ firstOr (now (level .entry))
-        (refuseLevel (shortSource (now (src .entry))) (conicOf (now (src .entry)) weight Product) tolerance valuesOfRefusal
-        (levelOf (conicOf (now (src .entry)) weight Product) tolerance ∷ [])) ⌝ }
+        (refuseLevel ceiling (shortSource (now (src .entry))) (conicOf (now (src .entry)) weight Product) tolerance valuesOfRefusal
+        (levelOf ceiling (conicOf (now (src .entry)) weight Product) tolerance ∷ [])) ⌝ }
 {
-    give_level(Conic::compute_quad_pow2_from(src, weight, tolerance), level)
+    give_level(
+        Conic::compute_quad_pow2_from(src, weight, tolerance, ceiling),
+        level,
+    )
 }
 
 // Cuts a conic into 2^level quads by the crate's own between test.

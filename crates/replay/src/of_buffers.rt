@@ -38,7 +38,7 @@ pub fn chopped(k: u32, r: &[u8; 80], src: &[f32]) -> Sum {
 
 // What the cut of number k gives.
 pub fn quads(k: u32, r: &[u8; 80], src: &[f32]) -> Sum {
-    let mut buffer = [0.0f32; 140];
+    let mut buffer = [0.0f32; 520];
     sum::stand(&mut buffer);
     lent(k, r, src, record::length_at(r, 16), &mut buffer)
 }

@@ -20,8 +20,9 @@ pub fn chop(r: &[u8; 80], src: &[f32]) -> Sum {
 pub fn compute_quad_pow2(r: &[u8; 80], src: &[f32]) -> Sum {
     let weight = record::float_at(r, 7);
     let tolerance = record::float_at(r, 8);
+    let ceiling = record::word_at(r, 17);
     let mut level = 77;
-    let number = conics::nz_conic_compute_quad_pow2(src, weight, tolerance, &mut level);
+    let number = conics::nz_conic_compute_quad_pow2(src, weight, tolerance, ceiling, &mut level);
     sum::word(sum::word(sum::START, number), level)
 }
 

@@ -1,6 +1,6 @@
 // A record of the list: 80 bytes, which are 20 words of 32 bits, the lowest byte first. Word 0 names the call, words 1
-// to 12 are the floats of its input, 13 and 14 its double, 15 and 16 its lengths, 17 its level, and words 18 and 19 the
-// sums over what the original gave. A record whose word 0 is 2^32 - 1 has the name of those that follow.
+// to 12 are the floats of its input, 13 and 14 its double, 15 and 16 its lengths, 17 its level or ceiling, and words 18 and 19
+// the sums over what the original gave. A record whose word 0 is 2^32 - 1 has the name of those that follow.
 
 fn joined(a: u8, b: u8, c: u8, d: u8) -> u32 {
     (a as u32) + (b as u32) * 256 + (c as u32) * 65536 + (d as u32) * 16777216

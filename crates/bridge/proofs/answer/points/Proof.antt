@@ -5,10 +5,10 @@ use Rattle.bridge.proofs.answer.points.Statement.{statement}
 use Rattle.bridge.proofs.answer.points.Tie as tie
 
 abbrev Inv-loop : tie.InvT-loop
-Inv-loop out count i₀ i = i ≤ 33
+Inv-loop out count i₀ i = i ≤ 129
 
 abbrev μ-loop : tie.MeasureT-loop
-μ-loop out count i₀ i = 33 - i
+μ-loop out count i₀ i = 129 - i
 
 loop-holds : tie.Need-loop-holds Inv-loop μ-loop
 loop-holds c = omega arith

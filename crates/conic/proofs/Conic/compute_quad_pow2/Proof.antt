@@ -9,24 +9,34 @@ use Rattle.conic.proofs.Conic.compute_quad_pow2.Tie as tie
 
 returns : tie.Need-returns
 unfolding levelAnswer
-returns c = chosen (rw (← c .before .is-bad .ensures, c .if1 .taken))
+returns c = chosen (rw (← c .before .is-bad-ceiling .ensures, c .if1 .taken))
 
 returns-2 : tie.Need-returns-2
 unfolding levelAnswer
 returns-2 c =
-    let bad = c .before .before .before .is-bad in
-    let whole = c .before .is-finite in
-    chosen (rw (← bad .ensures, c .before .before .if1 .left, ← whole .ensures, not-true (whole .result) (c .if2 .taken)))
+    let none = c .before .before .before .is-bad-ceiling in
+    chosen (rw (← none .ensures, c .before .before .if1 .left, ← c .before .is-bad .ensures, c .if2 .taken))
 
 returns-3 : tie.Need-returns-3
 unfolding levelAnswer
 returns-3 c =
+    let none = c .before .before .before .before .before .is-bad-ceiling in
+    let bad = c .before .before .before .is-bad in
+    let whole = c .before .is-finite in
+    let known = c .before .before .before .before .if1 .left in
+    chosen (rw (← none .ensures, known, ← bad .ensures, c .before .before .if2 .left, ← whole .ensures, not-true (whole .result) (c .if3 .taken)))
+
+returns-4 : tie.Need-returns-4
+unfolding levelAnswer
+returns-4 c =
+    let none = c .before .before .before .before .before .before .is-bad-ceiling in
     let bad = c .before .before .before .before .is-bad in
     let whole = c .before .before .is-finite in
-    let good = not-false (whole .result) (c .before .if2 .left) in
-    chosen (rw (← bad .ensures, c .before .before .before .if1 .left, ← whole .ensures, good) (ap Pow2 (c .level .ensures)))
+    let known = c .before .before .before .before .before .if1 .left in
+    let good = not-false (whole .result) (c .before .if3 .left) in
+    chosen (rw (← none .ensures, known, ← bad .ensures, c .before .before .before .if2 .left, ← whole .ensures, good) (ap Pow2 (c .level .ensures)))
 
 pub compute-quad-pow2-spec : {M : Type 1} → statement M
 compute-quad-pow2-spec =
     tie.close
-    (tie.spec (λ c κs. tt) returns (λ c κs. tt) returns-2 (λ c κs. tt) returns-3)
+    (tie.spec (λ c κs. tt) returns (λ c κs. tt) returns-2 (λ c κs. tt) returns-3 (λ c κs. tt) returns-4)
