@@ -7,10 +7,12 @@ use conic::Refusal;
 use conic_cut::Cut;
 use libc::STDOUT_FILENO;
 
-// The points of a cut at the highest level, and the numbers that they are.
-const MOST: usize = 129;
+// Of a cut at the highest level: its quads, its points, and the numbers that these are.
+const QUADS: usize = 1 << Conic::MAX_CUT_LEVEL;
 
-const ROOM: usize = 2 * MOST;
+const POINTS: usize = 2 * QUADS + 1;
+
+const ROOM: usize = 2 * POINTS;
 
 fn text(t: &[u8]) {
     io::write_all(STDOUT_FILENO, t);
@@ -43,7 +45,7 @@ fn point(x: f32, y: f32) {
 // Writes the first `count` points of the buffer.
 fn points(out: &[f32; ROOM], count: usize) {
     let mut i = 0;
-    while i < MOST {
+    while i < POINTS {
         if i < count {
             point(out[2 * i], out[2 * i + 1]);
         }
@@ -92,7 +94,7 @@ fn cut(line: u64, b: Bridge) {
     let conic = b.conic;
     match conic_cut::chop_into_quads_pow2(&mut out, conic, b.level) {
         Cut::Quads(n) => {
-            let count = if n < 65 { 2 * n + 1 } else { MOST };
+            let count = if n <= QUADS { 2 * n + 1 } else { POINTS };
             written(line, conic, &out, count);
         }
         Cut::Refused(why) => refused(why),

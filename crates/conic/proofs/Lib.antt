@@ -1,5 +1,6 @@
 pub mod Agree
 pub mod AnyRule
+pub mod Ceilings
 pub mod Levels
 pub mod Sources
 pub mod Unique

@@ -25,7 +25,7 @@ ceiling = 6
 abbrev pub crateCeiling : ℕ
 crateCeiling = 4
 
--- a level choice has one of the two for its ceiling
+-- neither of the two, one of which a level choice has for its ceiling
 abbrev pub badCeiling : ℕ → Bool
 badCeiling m = not (eqb m crateCeiling) && not (eqb m ceiling)
 
