@@ -27,7 +27,8 @@ static void *in_order(void *level) {
 
 static void *automatic(void *p) {
     frame = __builtin_frame_address(0);
-    for (int k = 0; k < 3; k++) nz_auto_conic_to_quads(bridge, 6, weights[k], places, &quads);
+    for (int k = 0; k < 3; k++)
+        if (nz_auto_conic_to_quads(bridge, 6, weights[k], places, &quads) != NZ_OK) exit(1);
     return p;
 }
 

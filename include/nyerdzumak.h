@@ -32,7 +32,7 @@
 
 /* the answers */
 #define NZ_OK 0u                  /* none below applies */
-#define NZ_LEVEL_TOO_HIGH 1u      /* level above NZ_MAX_LEVEL; in level choice, no such ceiling */
+#define NZ_LEVEL_TOO_HIGH 1u      /* level above NZ_MAX_LEVEL; in level choice, a ceiling other than the two below */
 #define NZ_BUFFER_TOO_SHORT 2u    /* a lent source or buffer is shorter than needed */
 #define NZ_POINT_NOT_FINITE 3u    /* a point of the conic fails nz_point_is_finite, in level choice only */
 #define NZ_BAD_TOLERANCE 4u       /* tolerance below 0 or not finite */

@@ -79,7 +79,7 @@ impl Tally {
         done[0] += 1;
         done[1] += theirs.minus_zero() as u64;
         done[2] += !agree as u64;
-        self.levels.count(k, case, ours);
+        self.levels.count(k, case, theirs);
         if k == self.kinds.call {
             self.kinds.count(case, ours);
         }
@@ -95,7 +95,7 @@ impl Tally {
         }
     }
 
-    // The table; whether there was a difference, a promise failed, or a level was never met.
+    // The table; whether there was a difference, a promise failed, or a level or its refusal was never met.
     fn print(&self) -> bool {
         for (call, d) in CALLS.iter().zip(&self.done).filter(|(_, d)| d[0] > 0) {
             println!("{:>11} inputs, {:>9} answered with −0, {} differences: {}", d[0], d[1], d[2], call.name);

@@ -1,11 +1,11 @@
-// At which levels cuts were compared, how many levels were refused, and which levels were chosen by which ceiling.
+// At which levels cuts were compared, how many levels were refused, and which levels were chosen by which ceiling, all as the
+// judge has it.
 use crate::calls::{Case, CALLS};
-use crate::of_conics::{room, HIGHEST};
+use crate::of_conics::{room, CEILINGS, HIGHEST};
 use crate::outputs::Output;
 
 const CUTS: [&str; 3] = ["conic_chop_into_quads_pow2", "cut_in_order", "cut_in_order_both"];
 const CHOICE: &str = "conic_compute_quad_pow2";
-const CEILINGS: [u32; 2] = [4, 6];
 
 // With fewer inputs of its call, a level that was never met says nothing.
 const FEW: u64 = 100_000;
@@ -47,7 +47,7 @@ impl Cuts {
 }
 
 impl Levels {
-    // Counts an input of call k, and what the call gave.
+    // Counts an input of call k, and what the judge gave.
     pub fn count(&mut self, k: usize, c: &Case, out: &Output) {
         let name = CALLS[k].name;
         if let Some(j) = CUTS.iter().position(|n| *n == name) {
@@ -62,7 +62,7 @@ impl Levels {
         }
     }
 
-    // Whether, of many inputs, none was at some level; or of a call's, none was refused.
+    // Whether, of many inputs of a call, a level was never met or a refusal never given.
     pub fn failed(&self) -> bool {
         let never = |j: usize| self.chosen[j][1..=CEILINGS[j] as usize].contains(&0);
         self.cuts.iter().any(Cuts::failed) || self.choices > FEW && (never(0) || never(1) || self.no_ceiling == 0)

@@ -7,6 +7,9 @@ use original::path_geometry::{AutoConicToQuads, Conic};
 // The highest level of a cut.
 pub const HIGHEST: u32 = 6;
 
+// The ceilings of a level choice: the original's own, and the highest level of a cut.
+pub const CEILINGS: [u32; 2] = [4, HIGHEST];
+
 // The buffer of a cut: room for the first level that is refused, and some places more.
 pub const LENT: usize = room(HIGHEST + 1) + 6;
 
@@ -30,7 +33,7 @@ pub fn conic_and_ceiling(i: &mut Inputs, c: &mut Case) {
     c.level = match i.below(16) {
         0 => i.below(9) as u32,
         1 => i.next() as u32 >> i.below(32),
-        n => [4, 6][n as usize % 2],
+        n => CEILINGS[n as usize % 2],
     };
 }
 
@@ -109,10 +112,10 @@ macro_rules! chosen {
 
 pub fn level(c: &Case, out: &mut Output) {
     let t = c.f[7];
-    let chosen = match c.level {
-        4 => Some(chosen!(original, c)),
-        6 => Some(chosen!(six, c)),
-        _ => None,
+    let chosen = match CEILINGS.iter().position(|n| *n == c.level) {
+        Some(0) => Some(chosen!(original, c)),
+        Some(_) => Some(chosen!(six, c)),
+        None => None,
     };
     let refused = match chosen {
         None => 1,

@@ -25,7 +25,7 @@ ceiling = 6
 abbrev pub crateCeiling : ℕ
 crateCeiling = 4
 
--- neither of the two, one of which a level choice has for its ceiling
+-- no ceiling of a level choice: neither of the two
 abbrev pub badCeiling : ℕ → Bool
 badCeiling m = not (eqb m crateCeiling) && not (eqb m ceiling)
 

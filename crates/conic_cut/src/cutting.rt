@@ -12,7 +12,7 @@ use conic::Conic;
 use conic::depth::Depth;
 use point::Point;
 
-// The highest level of a cut. Nothing here is proved level by level, so that none of it looks at the number.
+// The highest level of a cut, by which the ladder has its room. The proofs are by induction over the level.
 const DEEPEST: usize = Conic::MAX_CUT_LEVEL as usize;
 // Two numbers for each level.
 const RUNGS: usize = 2 * DEEPEST;

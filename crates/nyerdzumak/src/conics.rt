@@ -179,7 +179,8 @@ fn give_cut(cut: AutoConicToQuads, out: &mut [f32; 128], quads: &mut usize) -> u
     }
 }
 
-// The crate's own choice: the cut by its own between test at the level that a tolerance of a quarter chooses.
+// The crate's own choice: the cut by its own between test at the level that a tolerance of a quarter chooses, by its own
+// ceiling.
 #[no_mangle]
 pub extern "C" fn nz_auto_conic_to_quads(
     src: &[f32],

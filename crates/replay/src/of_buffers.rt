@@ -36,7 +36,7 @@ pub fn chopped(k: u32, r: &[u8; 80], src: &[f32]) -> Sum {
     lent(k, r, src, record::length_at(r, 16), &mut buffer)
 }
 
-// What the cut of number k gives.
+// What the cut of number k gives. The buffer is as long as that of the judge's cuts, `LENT` in oracle/of_conics.rs.
 pub fn quads(k: u32, r: &[u8; 80], src: &[f32]) -> Sum {
     let mut buffer = [0.0f32; 520];
     sum::stand(&mut buffer);
