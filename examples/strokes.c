@@ -24,6 +24,22 @@ static bool promised(const float *bridge) {
     return bridge[0] <= bridge[4] && nz_between_exact(bridge[0], bridge[2], bridge[4]) && nz_between_exact(bridge[1], bridge[3], bridge[5]);
 }
 
+// The level for a tolerance, up to the highest that a cut has, and a date from the cut at that level; what the ceiling of
+// the Rust gives, and what is no ceiling. Whether all went well.
+static bool finer(const float *bridge, float weight) {
+    float points[NZ_CUT_ROOM(NZ_MAX_LEVEL)];
+    uint32_t level = 0;
+    uint32_t answer = nz_conic_compute_quad_pow2(bridge, 6, weight, 0.05f, NZ_MAX_LEVEL, &level);
+    printf("level for a twentieth of a millisecond: %u, answer %u\n", level, answer);
+    if (answer != NZ_OK || nz_cut_in_order_both(bridge, 6, weight, level, points, NZ_CUT_ROOM(level)) != NZ_OK) return false;
+    printf("stroke recorded at 1750, cut at level %u: %.3f\n", level, date(points, (nz_len)1 << level, 1750));
+    answer = nz_conic_compute_quad_pow2(bridge, 6, weight, 0.05f, NZ_MAX_CONIC_TO_QUAD_POW2, &level);
+    printf("level by the ceiling of the Rust: %u, answer %u\n", level, answer);
+    answer = nz_conic_compute_quad_pow2(bridge, 6, weight, 0.05f, 5, &level);
+    printf("by the ceiling 5: answer %u\n", answer);
+    return true;
+}
+
 int main(void) {
     // from (1000, 1000) to (2000, 2400) milliseconds since the session began: recorded across, corrected up
     const float bridge[6] = {1000, 1000, 1500, 1100, 2000, 2400};
@@ -46,17 +62,7 @@ int main(void) {
     printf("nine numbers of room at level 1: answer %u\n", answer);
     answer = nz_cut_in_order_both(bridge, 6, 1, NZ_MAX_LEVEL + 1, points, NZ_CUT_ROOM(NZ_MAX_LEVEL));
     printf("level %u: answer %u\n", NZ_MAX_LEVEL + 1, answer);
-
-    // the level for a tolerance, up to the highest that a cut has, and a date from the cut at that level
-    uint32_t level = 0;
-    answer = nz_conic_compute_quad_pow2(bridge, 6, 0.75f, 0.05f, NZ_MAX_LEVEL, &level);
-    printf("level for a twentieth of a millisecond: %u, answer %u\n", level, answer);
-    if (answer != NZ_OK || nz_cut_in_order_both(bridge, 6, 0.75f, level, points, NZ_CUT_ROOM(level)) != NZ_OK) return 1;
-    printf("stroke recorded at 1750: %.3f\n", date(points, (nz_len)1 << level, 1750));
-    answer = nz_conic_compute_quad_pow2(bridge, 6, 0.75f, 0.05f, NZ_MAX_CONIC_TO_QUAD_POW2, &level);
-    printf("level by the ceiling of the Rust: %u, answer %u\n", level, answer);
-    answer = nz_conic_compute_quad_pow2(bridge, 6, 0.75f, 0.05f, 5, &level);
-    printf("by the ceiling 5: answer %u\n", answer);
+    if (!finer(bridge, 0.75f)) return 1;
 
     const float m[6] = {1, 2, 3, 4, 5, 6};
     float p[2] = {1, 1};

@@ -28,6 +28,21 @@ fn cut(bridge: &[f32], weight: f32, level: u32, out: &mut [f32]) -> u32 {
     unsafe { nz_cut_in_order_both(bridge.as_ptr(), bridge.len() as u64, weight, level, out.as_mut_ptr(), out.len() as u64) }
 }
 
+// The level for a tolerance, up to the highest that a cut has, and a date from the cut at that level; what the ceiling of
+// the Rust gives, and what is no ceiling.
+fn finer(bridge: &[f32; 6], weight: f32) {
+    let mut points = [0.0; nz_cut_room(NZ_MAX_LEVEL) as usize];
+    let mut level = 0;
+    let mut choose = |ceiling: u32| (unsafe { nz_conic_compute_quad_pow2(bridge.as_ptr(), 6, weight, 0.05, ceiling, &mut level) }, level);
+    let (answer, fine) = choose(NZ_MAX_LEVEL);
+    println!("level for a twentieth of a millisecond: {fine}, answer {answer}");
+    assert!(answer == NZ_OK && cut(bridge, weight, fine, &mut points) == NZ_OK);
+    println!("stroke recorded at 1750, cut at level {fine}: {:.3}", date(&points, 1 << fine, 1750.0));
+    let (answer, low) = choose(NZ_MAX_CONIC_TO_QUAD_POW2);
+    println!("level by the ceiling of the Rust: {low}, answer {answer}");
+    println!("by the ceiling 5: answer {}", choose(5).0);
+}
+
 fn main() {
     // from (1000, 1000) to (2000, 2400) milliseconds since the session began: recorded across, corrected up
     let bridge: [f32; 6] = [1000.0, 1000.0, 1500.0, 1100.0, 2000.0, 2400.0];
@@ -50,17 +65,7 @@ fn main() {
 
     println!("nine numbers of room at level 1: answer {}", cut(&bridge, 1.0, 1, &mut points[..9]));
     println!("level {}: answer {}", NZ_MAX_LEVEL + 1, cut(&bridge, 1.0, NZ_MAX_LEVEL + 1, &mut points));
-
-    // the level for a tolerance, up to the highest that a cut has, and a date from the cut at that level
-    let mut level = 0;
-    let mut choose = |ceiling: u32| (unsafe { nz_conic_compute_quad_pow2(bridge.as_ptr(), 6, 0.75, 0.05, ceiling, &mut level) }, level);
-    let (answer, fine) = choose(NZ_MAX_LEVEL);
-    println!("level for a twentieth of a millisecond: {fine}, answer {answer}");
-    assert!(answer == NZ_OK && cut(&bridge, 0.75, fine, &mut points) == NZ_OK);
-    println!("stroke recorded at 1750: {:.3}", date(&points, 1 << fine, 1750.0));
-    let (answer, level) = choose(NZ_MAX_CONIC_TO_QUAD_POW2);
-    println!("level by the ceiling of the Rust: {level}, answer {answer}");
-    println!("by the ceiling 5: answer {}", choose(5).0);
+    finer(&bridge, 0.75);
 
     let mut p = [1.0, 1.0];
     unsafe { nz_transform_map_point(&[1.0, 2.0, 3.0, 4.0, 5.0, 6.0], &mut p) };
