@@ -95,7 +95,7 @@ impl Tally {
         }
     }
 
-    // The table; whether there was a difference, a promise failed, or a level or its refusal was never met.
+    // The table; whether there was a difference, a promise failed, or a level was hardly met or its refusal never.
     fn print(&self) -> bool {
         for (call, d) in CALLS.iter().zip(&self.done).filter(|(_, d)| d[0] > 0) {
             println!("{:>11} inputs, {:>9} answered with −0, {} differences: {}", d[0], d[1], d[2], call.name);

@@ -7,7 +7,7 @@ use crate::outputs::Output;
 const CUTS: [&str; 3] = ["conic_chop_into_quads_pow2", "cut_in_order", "cut_in_order_both"];
 const CHOICE: &str = "conic_compute_quad_pow2";
 
-// With fewer inputs of its call, a level that was never met says nothing.
+// With fewer inputs of its call, a level that was hardly met says nothing.
 const FEW: u64 = 100_000;
 
 #[derive(Default)]
@@ -41,8 +41,9 @@ impl Cuts {
         }
     }
 
+    // Whether fewer than one input in a hundred was cut at some level, or none refused that had room.
     fn failed(&self) -> bool {
-        self.inputs > FEW && (self.made.contains(&0) || self.with_room == 0)
+        self.inputs > FEW && (self.made.iter().any(|n| 100 * n < self.inputs) || self.with_room == 0)
     }
 }
 
@@ -62,7 +63,7 @@ impl Levels {
         }
     }
 
-    // Whether, of many inputs of a call, a level was never met or a refusal never given.
+    // Whether, of many inputs of a call, a level was hardly met or a refusal never given.
     pub fn failed(&self) -> bool {
         let never = |j: usize| self.chosen[j][1..=CEILINGS[j] as usize].contains(&0);
         self.cuts.iter().any(Cuts::failed) || self.choices > FEW && (never(0) || never(1) || self.no_ceiling == 0)
