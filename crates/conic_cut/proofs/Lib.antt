@@ -3,8 +3,8 @@ mod Answers
 mod Autos
 pub mod Both
 mod Ladder
-mod Lists
+pub mod Lists
 pub mod Order
-mod Stores
+pub mod Stores
 pub mod Unique
 pub mod Zeros
