@@ -1,6 +1,8 @@
-// The clock: cutting, mapping, roots and narrowing beside the original, in one process: medians of 401 batches, in nanoseconds a
-// call. Cuts are timed with the buffer cleared before each call, on both sides, and not cleared; and what a point costs at
-// level 4 and at level 6, in turns.
+// The clock: cutting, mapping, roots and narrowing beside the original, and dates beside plain Rust, in one process: medians
+// of 401 batches, in nanoseconds a call. Cuts are timed with the buffer cleared before each call, on both sides, and not
+// cleared; and what a point costs at level 4 and at level 6, in turns.
+mod dates;
+
 use original::path_geometry::Conic;
 use original::{Point, Transform};
 use std::hint::black_box;
@@ -33,8 +35,12 @@ fn medians(calls: usize, mut a: impl FnMut(), mut b: impl FnMut()) -> [f64; 2] {
     [middle(of_a), middle(of_b)]
 }
 
+fn beside(name: &str, ours: f64, other: &str, theirs: f64) {
+    println!("{:<56} {:8.1} ns, {} {:8.1} ns, {:.2} times", name, ours, other, theirs, ours / theirs);
+}
+
 fn row(name: &str, ours: f64, theirs: f64) {
-    println!("{:<56} {:8.1} ns, the original {:8.1} ns, {:.2} times", name, ours, theirs, ours / theirs);
+    beside(name, ours, "the original", theirs);
 }
 
 // What conics are timed: of milliseconds; with finite coordinates whose products overflow; and of a weight below 0, so that the
@@ -177,4 +183,5 @@ fn main() {
     points();
     mapping();
     ground();
+    dates::all();
 }

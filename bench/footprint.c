@@ -1,4 +1,5 @@
-// How deep a cut goes into the stack: it is called on a stack of its own, painted before, and what lost its paint is counted.
+// How deep a cut, a date table and lookups go into the stack: each is called on a stack of its own, painted before, and what
+// lost its paint is counted.
 #include <math.h>
 #include <pthread.h>
 #include <stdio.h>
@@ -15,6 +16,7 @@ static const float weights[3] = {0.75f, -0.5f, NAN};
 static float out[NZ_CUT_ROOM(NZ_MAX_LEVEL)];
 static float places[128];
 static nz_len quads;
+static uint32_t table[NZ_TABLE_ROOM(NZ_MAX_LEVEL)];
 static unsigned char *frame; // of the function that calls
 
 static void *in_order(void *level) {
@@ -29,6 +31,22 @@ static void *automatic(void *p) {
     frame = __builtin_frame_address(0);
     for (int k = 0; k < 3; k++)
         if (nz_auto_conic_to_quads(bridge, 6, weights[k], places, &quads) != NZ_OK) exit(1);
+    return p;
+}
+
+static void *date_table(void *p) {
+    frame = __builtin_frame_address(0);
+    for (int k = 0; k < 3; k++)
+        if (nz_date_table(bridge, 6, weights[k], NZ_MAX_LEVEL, table, NZ_TABLE_ROOM(NZ_MAX_LEVEL)) != NZ_OK) exit(1);
+    return p;
+}
+
+static void *lookups(void *p) {
+    uint32_t time = 1750, date;
+    nz_len bad;
+    frame = __builtin_frame_address(0);
+    if (nz_date_at(table, NZ_TABLE_ROOM(NZ_MAX_LEVEL), time, &date) != NZ_OK) exit(1);
+    if (nz_date_all(table, NZ_TABLE_ROOM(NZ_MAX_LEVEL), &time, 1, &bad) != NZ_OK) exit(1);
     return p;
 }
 
@@ -51,5 +69,7 @@ int main(void) {
     uint32_t levels[2] = {4, NZ_MAX_LEVEL};
     for (int k = 0; k < 2; k++) printf("stack of nz_cut_in_order_both at level %u: %zu bytes\n", (unsigned)levels[k], deep(in_order, &levels[k]));
     printf("stack of nz_auto_conic_to_quads: %zu bytes\n", deep(automatic, NULL));
+    printf("stack of nz_date_table at level %u: %zu bytes\n", NZ_MAX_LEVEL, deep(date_table, NULL));
+    printf("stack of nz_date_at and nz_date_all: %zu bytes\n", deep(lookups, NULL));
     return 0;
 }

@@ -1,78 +1,96 @@
-// Dates strokes across a clock correction: the conic's cut in order, a date for each recorded time, and what a refusal looks like.
+// Dates strokes across a clock correction: a bridge between two readings, its date table, the dates, and what refusals look
+// like; then the points of a cut, and a matrix.
+#include <inttypes.h>
 #include <stdio.h>
 
 #include "../include/nyerdzumak.h"
 
-// The corrected time at a recorded one that lies within the cut: in a straight line between the ends of its quad, which
-// are every second point. Rounding can carry p + (q - p) * t past q, so it is held between the two: then a later recorded
-// time within the same rise never gets an earlier date than the end of the quad before it.
-static float date(const float *points, nz_len quads, float recorded) {
-    nz_len k = 0;
-    while (k + 1 < quads && points[4 * k + 4] < recorded) k++;
-    const float *p = points + 4 * k, *q = p + 4;
-    if (q[0] <= p[0]) return p[1];
-    float y = p[1] + (q[1] - p[1]) * ((recorded - p[0]) / (q[0] - p[0]));
-    float low = p[1] < q[1] ? p[1] : q[1], high = p[1] < q[1] ? q[1] : p[1];
-    return y < low ? low : y > high ? high : y;
+// The session's start. Both clocks are counted from it, in whole numbers and before they become floats, since a float has
+// every millisecond up to NZ_MAX_ENTRY only; it is added back to the dates.
+static const uint64_t start = 1900000000000;
+
+// Milliseconds since then. What is before it, or does not fit, becomes a number outside of every table, and is refused.
+static uint32_t since(uint64_t reading) {
+    return reading < start || reading - start > UINT32_MAX ? UINT32_MAX : (uint32_t)(reading - start);
 }
 
-// Whether the cut of a bridge is promised to run forward in recorded time, by which strokes are looked up, and to keep one
-// direction in corrected time.
+// Dates one stroke by the table of a bridge at a level. Whether all went well.
+static bool date_one(const float *bridge, float weight, uint32_t level, uint64_t recorded) {
+    uint32_t table[NZ_TABLE_ROOM(NZ_MAX_LEVEL)], date;
+    if (nz_date_table(bridge, 6, weight, level, table, NZ_TABLE_ROOM(NZ_MAX_LEVEL)) != NZ_OK) return false;
+    // lent as long as the table is, and not as its buffer
+    if (nz_date_at(table, NZ_TABLE_ROOM(level), since(recorded), &date) != NZ_OK) return false;
+    printf("stroke recorded at %" PRIu64 ", level %u: %" PRIu64 "\n", recorded, level, start + date);
+    return true;
+}
+
+// Dates many strokes by one call, and tries one that was recorded before the session.
+static bool date_all(const uint32_t *table, nz_len length) {
+    const uint64_t recorded[5] = {start + 1000, start + 1250, start + 1500, start + 1750, start + 2000};
+    uint32_t times[5];
+    nz_len first_bad = 0;
+    for (int k = 0; k < 5; k++) times[k] = since(recorded[k]);
+    if (nz_date_all(table, length, times, 5, &first_bad) != NZ_OK) return false;
+    for (int k = 0; k < 5; k++) printf("stroke recorded at %" PRIu64 ": %" PRIu64 "\n", recorded[k], start + times[k]);
+
+    uint32_t two[2] = {since(start + 1000), since(start - 1)};
+    uint32_t answer = nz_date_all(table, length, two, 2, &first_bad);
+    printf("a stroke from before the session: answer %u, at place %u; the other is as it was, %u\n", answer, (unsigned)first_bad, two[0]);
+    return true;
+}
+
+// What makes no table, and what is none.
+static void refusals(const float *bridge) {
+    const float back[6] = {1000, 2400, 1500, 1100, 2000, 1000}, long_after[6] = {0, 0, 1000, 1000, 16777218, 2000};
+    uint32_t table[NZ_TABLE_ROOM(NZ_MAX_LEVEL)] = {0}, date;
+    const nz_len room = NZ_TABLE_ROOM(NZ_MAX_LEVEL);
+    printf("a clock set back: answer %u\n", nz_date_table(back, 6, 0.75f, 2, table, room));
+    printf("past 16,777,216 milliseconds: answer %u\n", nz_date_table(long_after, 6, 0.75f, 2, table, room));
+    printf("nine numbers of room at level 2: answer %u\n", nz_date_table(bridge, 6, 0.75f, 2, table, 9));
+    printf("level %u: answer %u\n", NZ_MAX_LEVEL + 1, nz_date_table(bridge, 6, 0.75f, NZ_MAX_LEVEL + 1, table, room));
+    if (nz_date_table(bridge, 6, 0.75f, 2, table, room) != NZ_OK) return;
+    printf("a lookup that is lent the zeros behind a table: answer %u\n", nz_date_at(table, room, 1750, &date));
+}
+
+// Whether the cut of a bridge is promised to run forward along x and to keep one direction along y. A table needs no test.
 static bool promised(const float *bridge) {
     for (int k = 0; k < 6; k++)
         if (!nz_is_finite_f32(bridge[k])) return false;
     return bridge[0] <= bridge[4] && nz_between_exact(bridge[0], bridge[2], bridge[4]) && nz_between_exact(bridge[1], bridge[3], bridge[5]);
 }
 
-// The level for a tolerance, up to the highest that a cut has, and a date from the cut at that level; what the ceiling of
-// the Rust gives, and what is no ceiling. Whether all went well.
-static bool finer(const float *bridge, float weight) {
-    float points[NZ_CUT_ROOM(NZ_MAX_LEVEL)];
-    uint32_t level = 0;
-    uint32_t answer = nz_conic_compute_quad_pow2(bridge, 6, weight, 0.05f, NZ_MAX_LEVEL, &level);
-    printf("level for a twentieth of a millisecond: %u, answer %u\n", level, answer);
-    if (answer != NZ_OK || nz_cut_in_order_both(bridge, 6, weight, level, points, NZ_CUT_ROOM(level)) != NZ_OK) return false;
-    printf("stroke recorded at 1750, cut at level %u: %.3f\n", level, date(points, (nz_len)1 << level, 1750));
-    answer = nz_conic_compute_quad_pow2(bridge, 6, weight, 0.05f, NZ_MAX_CONIC_TO_QUAD_POW2, &level);
-    printf("level by the ceiling of the Rust: %u, answer %u\n", level, answer);
-    answer = nz_conic_compute_quad_pow2(bridge, 6, weight, 0.05f, 5, &level);
-    printf("by the ceiling 5: answer %u\n", answer);
-    return true;
-}
-
 int main(void) {
-    // from (1000, 1000) to (2000, 2400) milliseconds since the session began: recorded across, corrected up
-    const float bridge[6] = {1000, 1000, 1500, 1100, 2000, 2400};
-    float points[NZ_CUT_ROOM(NZ_MAX_LEVEL)];
-    if (!promised(bridge)) return 1;
-    uint32_t answer = nz_cut_in_order_both(bridge, 6, 0.75f, 2, points, NZ_CUT_ROOM(2));
-    printf("cut at level 2: answer %u\n", answer);
+    // three readings, each as it was recorded and as it is corrected: the start of the gap, a point on the way, and its end
+    const uint64_t readings[6] = {start + 1000, start + 1000, start + 1500, start + 1100, start + 2000, start + 2400};
+    float bridge[6];
+    for (int k = 0; k < 6; k++) bridge[k] = (float)since(readings[k]);
+
+    uint32_t table[NZ_TABLE_ROOM(2)];
+    uint32_t answer = nz_date_table(bridge, 6, 0.75f, 2, table, NZ_TABLE_ROOM(2));
+    printf("date table at level 2: answer %u\n", answer);
     if (answer != NZ_OK) return 1;
-    for (int k = 0; k < 9; k++) printf("  %.3f %.3f\n", points[2 * k], points[2 * k + 1]);
-    for (float t = 1000; t <= 2000; t += 250) printf("stroke recorded at %.0f: %.3f\n", t, date(points, 4, t));
+    for (int k = 0; k < 5; k++) printf("  %u %u\n", table[2 * k], table[2 * k + 1]);
+    if (!date_all(table, NZ_TABLE_ROOM(2))) return 1;
 
-    // an end that rounding would pass: 289.78162 + (2438.7522 - 289.78162) * 1 is above 2438.7522
-    const float steep[6] = {0, 289.78162f, 1, 1000, 2, 2438.7522f};
-    if (!promised(steep)) return 1;
-    answer = nz_cut_in_order_both(steep, 6, 1, 0, points, NZ_CUT_ROOM(0));
-    if (answer != NZ_OK) return 1;
-    printf("the last stroke of a bridge that ends at 2438.7522: %.4f\n", date(points, 1, 2));
+    // the level for a twentieth of a millisecond, up to the highest that there is, and by the ceiling of the Rust
+    uint32_t level = 0;
+    answer = nz_conic_compute_quad_pow2(bridge, 6, 0.75f, 0.05f, NZ_MAX_LEVEL, &level);
+    printf("level for a twentieth of a millisecond: %u, answer %u\n", level, answer);
+    if (answer != NZ_OK || !date_one(bridge, 0.75f, level, start + 1750)) return 1;
+    answer = nz_conic_compute_quad_pow2(bridge, 6, 0.75f, 0.05f, NZ_MAX_CONIC_TO_QUAD_POW2, &level);
+    printf("level by the ceiling of the Rust: %u, answer %u\n", level, answer);
+    printf("by the ceiling 5: answer %u\n", nz_conic_compute_quad_pow2(bridge, 6, 0.75f, 0.05f, 5, &level));
+    refusals(bridge);
 
-    answer = nz_cut_in_order_both(bridge, 6, 1, 1, points, 9);
-    printf("nine numbers of room at level 1: answer %u\n", answer);
-    answer = nz_cut_in_order_both(bridge, 6, 1, NZ_MAX_LEVEL + 1, points, NZ_CUT_ROOM(NZ_MAX_LEVEL));
-    printf("level %u: answer %u\n", NZ_MAX_LEVEL + 1, answer);
-    if (!finer(bridge, 0.75f)) return 1;
+    float points[NZ_CUT_ROOM(1)];
+    if (!promised(bridge) || nz_cut_in_order_both(bridge, 6, 0.75f, 1, points, NZ_CUT_ROOM(1)) != NZ_OK) return 1;
+    printf("cut at level 1:\n");
+    for (int k = 0; k < 5; k++) printf("  %.3f %.3f\n", points[2 * k], points[2 * k + 1]);
 
-    const float m[6] = {1, 2, 3, 4, 5, 6};
-    float p[2] = {1, 1};
+    float m[6] = {2, 0, 0, 4, 6, 8}, p[2] = {1, 1};
     nz_transform_map_point(m, p);
     printf("(1, 1) maps to (%g, %g)\n", p[0], p[1]);
-    float undone[6] = {2, 0, 0, 4, 6, 8};
-    answer = nz_transform_invert(undone, undone); // in place
-    printf("2, 0, 0, 4, 6, 8 is undone by %g, %g, %g, %g, %g, %g, answer %u\n", undone[0], undone[1], undone[2], undone[3], undone[4], undone[5], answer);
-    const float flat[6] = {1, 1, 1, 1, 0, 0};
-    answer = nz_transform_invert(flat, undone);
-    printf("a flat matrix is not inverted: answer %u\n", answer);
+    answer = nz_transform_invert(m, m); // in place
+    printf("which is undone by %g, %g, %g, %g, %g, %g, answer %u\n", m[0], m[1], m[2], m[3], m[4], m[5], answer);
     return 0;
 }

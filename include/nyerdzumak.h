@@ -1,18 +1,19 @@
 /* Nyerdzumak: conics cut into quads whose points keep one direction along both axes (nz_cut_in_order_both says of which
- * conics), and the float geometry below. For C99 or newer, and C++.
+ * conics), dates of recorded times by such cuts (nz_date_table), and the float geometry below. For C99 or newer, and C++.
  *
  * ANSWERS. Every call ends, on any bits, and reads and writes what is said here and nothing else. A call that can refuse
  * returns one of the numbers below, NZ_OK or why it did nothing; of several that apply the first in this order is given:
- * NZ_OUT_OF_RANGE or NZ_LEVEL_TOO_HIGH, then NZ_BAD_TOLERANCE, then NZ_BUFFER_TOO_SHORT, then the others. A call that cannot
- * refuse returns what it gives, or nothing. So every uint32_t that is called an answer here is worth testing.
+ * NZ_OUT_OF_RANGE or NZ_LEVEL_TOO_HIGH, then NZ_BAD_TOLERANCE, then NZ_BUFFER_TOO_SHORT, then NZ_ODD_LENGTH, then
+ * NZ_ENTRY_OUT_OF_RANGE, then NZ_TABLE_FALLS, then the others. A call that cannot refuse returns what it gives, or nothing.
+ * So every uint32_t that is called an answer here is worth testing.
  *
- * OUTPUTS. An output that has no value keeps its contents: all of them beside a refusal, and places for roots past those
- * that were found. A buffer that is longer than needed keeps its tail.
+ * OUTPUTS. An output that has no value keeps its contents: all of them beside a refusal, but for first_bad of nz_date_all,
+ * and places for roots past those that were found. A buffer that is longer than needed keeps its tail.
  *
- * BUFFERS. Points are numbers, x then y. A lent buffer is a pointer and then its length in numbers, not in points or
- * bytes. The pointer must be good for that length and must not be NULL, not even with length 0. A buffer must not overlap
- * another argument's memory. Matrices are the exception: where out is a matrix it may be the same array as m, a or b, but
- * not overlap it otherwise.
+ * BUFFERS. Points, and entries of date tables, are numbers, x then y. A lent buffer is a pointer and then its length in
+ * numbers, not in points, entries or bytes. The pointer must be good for that length and must not be NULL, not even with
+ * length 0. A buffer must not overlap another argument's memory. Matrices are the exception: where out is a matrix it may be
+ * the same array as m, a or b, but not overlap it otherwise.
  *
  * FLOATS. What is proved is proved of IEEE 754 arithmetic: round to nearest, subnormals kept. Do not set flush-to-zero or
  * another rounding mode; linking with -ffast-math sets flush-to-zero at start-up, and then cuts of numbers near 1e-38 turn
@@ -28,24 +29,32 @@
 #include <stdbool.h>
 #include <stdint.h>
 
-#define NZ_VERSION "0.3.0"
+#define NZ_VERSION "0.4.0"
 
 /* the answers */
 #define NZ_OK 0u                  /* none below applies */
 #define NZ_LEVEL_TOO_HIGH 1u      /* level above NZ_MAX_LEVEL; in level choice, a ceiling other than the two below */
-#define NZ_BUFFER_TOO_SHORT 2u    /* a lent source or buffer is shorter than needed */
+#define NZ_BUFFER_TOO_SHORT 2u    /* a lent source or buffer is shorter than needed; in a lookup, a date table has no entry */
 #define NZ_POINT_NOT_FINITE 3u    /* a point of the conic fails nz_point_is_finite, in level choice only */
 #define NZ_BAD_TOLERANCE 4u       /* tolerance below 0 or not finite */
 #define NZ_CURVATURE_UNDEFINED 5u /* the curvature is greatest at a quotient that is NaN */
 #define NZ_NEARLY_SINGULAR 6u     /* a skewed matrix has a determinant that is nearly zero */
 #define NZ_INVERSE_NOT_FINITE 7u  /* a skewed matrix, not 6, has an inverse with an entry that is not finite */
 #define NZ_OUT_OF_RANGE 8u        /* t outside its range, or NaN */
-#define NZ_ODD_LENGTH 9u          /* a buffer of points as numbers has odd length, in mapping only */
+#define NZ_ODD_LENGTH 9u          /* in mapping, a buffer of points as numbers has odd length; in a lookup, a date table has */
+#define NZ_ENTRY_OUT_OF_RANGE 10u /* a number of a date table, before it is rounded, is not from 0 to NZ_MAX_ENTRY */
+#define NZ_TIME_OUTSIDE 11u       /* a recorded time is before the first x of a date table or after the last */
+#define NZ_TABLE_FALLS 12u        /* an x or a y of a date table is below that of the entry before */
 
 /* the highest level of a cut, and the room in numbers that a cut at a level up to that one needs: 6, 10, 18, 34, 66, 130, 258;
  * test a level that is not yours before you use it here */
 #define NZ_MAX_LEVEL 6u
 #define NZ_CUT_ROOM(level) (2u * ((2u << (level)) + 1u))
+
+/* the largest number of a date table, 4.6 hours in milliseconds: up to it a float has every whole number; and the room in
+ * numbers that the table of a cut at such a level needs, which is its length in a lookup: 4, 6, 10, 18, 34, 66, 130 */
+#define NZ_MAX_ENTRY 16777216u
+#define NZ_TABLE_ROOM(level) (2u * ((1u << (level)) + 1u))
 
 /* the ceiling that tiny-skia-path has for the choice of a level; nz_conic_compute_quad_pow2 takes this one or NZ_MAX_LEVEL */
 #define NZ_MAX_CONIC_TO_QUAD_POW2 4u
@@ -112,6 +121,36 @@ uint32_t nz_conic_chop(const float *NZ_RESTRICT src, nz_len src_len, float weigh
 /* The between tests: (a - b) * (c - b) <= 0 as it is computed, and a <= b <= c or a >= b >= c, -0 and 0 being equal. */
 bool nz_between_product(float a, float b, float c);
 bool nz_between_exact(float a, float b, float c);
+
+/* ---- dates: tables of whole milliseconds, for each entry x, a recorded time, and y, its date ---- */
+
+/* Proved: a later recorded time never gets an earlier date, whatever the table. And a bridge whose points have every
+ * coordinate from 0 to NZ_MAX_ENTRY and rise from start to middle to end in x and in y, ties allowed, is never refused with
+ * NZ_ENTRY_OUT_OF_RANGE or NZ_TABLE_FALLS, whatever the weight; the first and the last entry of its table are its ends
+ * rounded down, and every time from the first x to the last is dated. Nothing has to be tested before: what makes no table is
+ * refused. */
+
+/* Makes the date table of a conic. It is cut as by nz_cut_in_order_both, and every second point from the first on, an end of
+ * a quad, is an entry, its x and its y rounded down: 2^level + 1 entries, NZ_TABLE_ROOM(level) numbers from table[0] on. What
+ * is behind these keeps its contents, and so does all of it beside a refusal.
+ *   Answers NZ_OK; NZ_LEVEL_TOO_HIGH; NZ_BUFFER_TOO_SHORT for fewer than NZ_TABLE_ROOM(level) numbers of room or six of a
+ * source; NZ_ENTRY_OUT_OF_RANGE where a coordinate that is taken is not finite, below 0 or above NZ_MAX_ENTRY before it is
+ * rounded (-0 is not below 0); NZ_TABLE_FALLS where, once rounded, an x or a y is below that of the entry before. */
+uint32_t nz_date_table(const float *NZ_RESTRICT src, nz_len src_len, float weight, uint32_t level, uint32_t *NZ_RESTRICT table, nz_len table_len);
+
+/* The date of a recorded time by a table, which is tested first. At the last x it is the last y. Before that it is counted
+ * from the last entry whose x is not above the time: its y and (recorded - x) * (next y - y) / (next x - x), rounded down.
+ * Entries may share their x; the time of that x then has the date of the last of them.
+ *   Lend it the table and nothing behind it: table_len is NZ_TABLE_ROOM(level) of the level that the table was made at, not
+ * the length of a longer buffer. A tail would be taken for entries, and where these happen to rise it is not refused.
+ *   Answers NZ_OK; NZ_BUFFER_TOO_SHORT for length 0; NZ_ODD_LENGTH for half an entry, so for length 1 too;
+ * NZ_ENTRY_OUT_OF_RANGE for a number above NZ_MAX_ENTRY; NZ_TABLE_FALLS; NZ_TIME_OUTSIDE. *date is stored for NZ_OK alone. */
+uint32_t nz_date_at(const uint32_t *NZ_RESTRICT table, nz_len table_len, uint32_t recorded, uint32_t *date);
+
+/* The same of many recorded times, in any order, by one test of the table: each date is stored over its time.
+ *   Answers as nz_date_at does; with no times the table is tested all the same. Beside a refusal the times are as they stood.
+ * For NZ_TIME_OUTSIDE, and for that alone, *first_bad is stored: the place, counted from 0, of the first time outside. */
+uint32_t nz_date_all(const uint32_t *NZ_RESTRICT table, nz_len table_len, uint32_t *NZ_RESTRICT times, nz_len times_len, nz_len *first_bad);
 
 /* ---- quads and cubics: six and eight lent numbers ---- */
 

@@ -1,7 +1,7 @@
 // The library's calls for a Rust program that links it: `include!` this file, or name it by `#[path]`; it is taken by the
 // editions 2021 and 2024, from Rust 1.82 on. Link with `-L native=FOLDER -l static=nyerdzumak`. What each call does, and
 // what its caller owes it, stands in nyerdzumak.h. A lent slice is a pointer that is not null and its length in numbers.
-pub const NZ_VERSION: &str = "0.3.0";
+pub const NZ_VERSION: &str = "0.4.0";
 
 pub const NZ_OK: u32 = 0;
 pub const NZ_LEVEL_TOO_HIGH: u32 = 1;
@@ -13,14 +13,25 @@ pub const NZ_NEARLY_SINGULAR: u32 = 6;
 pub const NZ_INVERSE_NOT_FINITE: u32 = 7;
 pub const NZ_OUT_OF_RANGE: u32 = 8;
 pub const NZ_ODD_LENGTH: u32 = 9;
+pub const NZ_ENTRY_OUT_OF_RANGE: u32 = 10;
+pub const NZ_TIME_OUTSIDE: u32 = 11;
+pub const NZ_TABLE_FALLS: u32 = 12;
 
 // The highest level of a cut, and the ceiling that tiny-skia-path has for the choice of a level.
 pub const NZ_MAX_LEVEL: u32 = 6;
 pub const NZ_MAX_CONIC_TO_QUAD_POW2: u32 = 4;
 
+// The largest number of a date table, in milliseconds.
+pub const NZ_MAX_ENTRY: u32 = 16777216;
+
 // The room in numbers that a cut at a level up to NZ_MAX_LEVEL needs.
 pub const fn nz_cut_room(level: u32) -> u64 {
     2 * ((2 << level) + 1)
+}
+
+// The room in numbers that the date table of such a cut needs, which is its length in a lookup.
+pub const fn nz_table_room(level: u32) -> u64 {
+    2 * ((1 << level) + 1)
 }
 
 unsafe extern "C" {
@@ -32,6 +43,9 @@ unsafe extern "C" {
     pub fn nz_conic_chop(src: *const f32, src_len: u64, weight: f32, halves: *mut [f32; 14]) -> u32;
     pub fn nz_between_product(a: f32, b: f32, c: f32) -> bool;
     pub fn nz_between_exact(a: f32, b: f32, c: f32) -> bool;
+    pub fn nz_date_table(src: *const f32, src_len: u64, weight: f32, level: u32, table: *mut u32, table_len: u64) -> u32;
+    pub fn nz_date_at(table: *const u32, table_len: u64, recorded: u32, date: *mut u32) -> u32;
+    pub fn nz_date_all(table: *const u32, table_len: u64, times: *mut u32, times_len: u64, first_bad: *mut u64) -> u32;
     pub fn nz_eval_quad_at(src: *const f32, src_len: u64, t: f32, out: *mut [f32; 2]) -> u32;
     pub fn nz_eval_cubic_pos_at(src: *const f32, src_len: u64, t: f32, out: *mut [f32; 2]) -> u32;
     pub fn nz_eval_quad_tangent_at(src: *const f32, src_len: u64, t: f32, out: *mut [f32; 2]) -> u32;

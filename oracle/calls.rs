@@ -1,5 +1,5 @@
-// Every exported call beside the original's: how an input is made, what the library gives, and what it has to give.
-// Where the original would panic or has no such input, the numbers of docs/RULES.md stand here.
+// Every exported call beside the original's, but for dates, which it does not have: how an input is made, what the library
+// gives, and what it has to give. Where the original would panic or has no such input, the numbers of docs/RULES.md stand here.
 use crate::inputs::Inputs;
 use crate::of_conics::*;
 use crate::of_curves::*;

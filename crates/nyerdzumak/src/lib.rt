@@ -2,6 +2,7 @@
 // answers with its number in docs/RULES.md, "Answer numbers", 0 where there is none; a refusal changes nothing that is
 // lent. A call that cannot refuse returns what it gives, or nothing.
 pub mod conics;
+pub mod dates;
 pub mod ground;
 pub mod kinds;
 pub mod roots;
