@@ -6,7 +6,7 @@ use Prim.Native.Nat.{ℕ, _+_, _-_, _*_, _^_, _%_, _≤_, _<_}
 use native.Mathlib.Omega.{arith}
 use borrow.Author.Tests.{lt-ltb, le-ltb, eq-eqb, ne-eqb}
 use lib.Dec.{ltb}
-use lib.ListN.{length, take, drop, replicate, length-replicate}
+use lib.ListN.{length, take, drop}
 use lib.Pow.{pow-mono}
 use lib.Seq.{sets, take-at}
 use lib.Ieee.{Float}
@@ -54,11 +54,9 @@ made-into {n = n} {c = c} {short = short} {l = l} e b =
       table = b;
     }
 
--- ---- the numbers that are tested are those that were rounded into a buffer of m numbers
-pub in-front : (t b : List ℕ) (m n : ℕ) → b ≡ sets (replicate m 0) 0 t → length t ≡ n → n ≤ m → take (n - 0) b ≡ t
-in-front t b m n e h k =
-    let z : n - 0 ≡ n = omega arith in
-    ap (λ (j : ℕ). take j b) z ∙ ap (take n) e ∙ sets-take t (replicate m 0) n h (omega (arith, length-replicate {A = ℕ} m 0))
+-- ---- the numbers that are tested are those that were rounded into a buffer
+pub in-front : (t b l : List ℕ) (n : ℕ) → b ≡ sets l 0 t → length t ≡ n → n ≤ length l → take (n - 0) b ≡ t
+in-front t b l n e h k = let z : n - 0 ≡ n = omega arith in ap (λ (j : ℕ). take j b) z ∙ ap (take n) e ∙ sets-take t l n h k
 
 -- ---- the level and the room
 module _ (n : ℕ) (c : Conic) (short : Bool) (l : List ℕ) where

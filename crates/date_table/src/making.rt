@@ -45,14 +45,14 @@ fn round_into(out: &mut [u32], points: &[f32])
     }
 }
 
-// Stores the same, n numbers, if they make a table. They are rounded twice, since nothing may be stored before all are tested.
-fn store_rounded(table: &mut [u32], points: &[f32], n: usize) -> Check
-    requires { ⌜ length (roundedOf (pointsOf (now points))) ≡ n ⌝ ∗ ⌜ n ≤ length (now table) ⌝ ∗ ⌜ n ≤ tableRoom ceiling ⌝ }
+// Stores the same in `table`, n numbers, if they make one. They are rounded into another buffer first, since nothing may be
+// stored before all are tested.
+fn store_tested(table: &mut [u32], rounded: &mut [u32], points: &[f32], n: usize) -> Check
+    requires { ⌜ length (roundedOf (pointsOf (now points))) ≡ n ⌝ ∗ ⌜ n ≤ length (now table) ⌝ ∗ ⌜ n ≤ length (now rounded) ⌝ }
     ensures { λ r. ⌜ r ≡ checkOf (roundedOf (pointsOf (now (points .entry)))) ⌝ }
     ensures table { λ r. ⌜ now (table .exit) ≡ storedBy r (now (table .entry)) (roundedOf (pointsOf (now (points .entry)))) ⌝ }
 {
-    let mut rounded = [0u32; TABLE];
-    round_into(&mut rounded, points);
+    round_into(rounded, points);
     let found = lookup::test(&rounded[0..n]);
     if let Check::Passed = found {
         round_into(table, points);
@@ -70,7 +70,8 @@ pub fn store(table: &mut [u32], c: Conic, level: u32) -> Made
     let mut cut = [0.0f32; CUT];
     let by_both = Conic::new(c.p0, c.p1, c.p2, c.weight, Rule::BothAxes);
     conic_cut::chop_into_quads_pow2(&mut cut, by_both, level);
-    match store_rounded(table, &cut[0..4 * spans + 2], 2 * spans + 2) {
+    let mut rounded = [0u32; TABLE];
+    match store_tested(table, &mut rounded, &cut[0..4 * spans + 2], 2 * spans + 2) {
         Check::Passed => Made::Entries(spans + 1),
         Check::Refused(why) => Made::Refused(why),
     }

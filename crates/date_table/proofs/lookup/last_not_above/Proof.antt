@@ -76,7 +76,7 @@ loop-again : tie.Need-loop-again Inv-loop μ-loop
 loop-again c =
     let at = c .before .before .before .loop in
     let a = c .before .before .before .before .args in
-    raised (a .table .now) (a .r) (at .low) (at .high) (at .inv) (c .before .before .loop-test .taken) (c .if1 .taken)
+    raised (a .table .now) (a .r) (at .low) (at .high) (at .inv) (c .before .before .loop-test .taken) (omega (arith, c .if1 .taken))
 
 loop-less-2 : tie.Need-loop-less-2 Inv-loop μ-loop
 loop-less-2 c = omega arith
@@ -85,7 +85,7 @@ loop-again-2 : tie.Need-loop-again-2 Inv-loop μ-loop
 loop-again-2 c =
     let at = c .before .before .before .loop in
     let a = c .before .before .before .before .args in
-    lowered (a .table .now) (a .r) (at .low) (at .high) (at .inv) (c .before .before .loop-test .taken) (c .if1 .left)
+    lowered (a .table .now) (a .r) (at .low) (at .high) (at .inv) (c .before .before .loop-test .taken) (omega (arith, c .if1 .left))
 
 returns : tie.Need-returns Inv-loop μ-loop
 returns c =

@@ -44,32 +44,36 @@ slice-aggregate-chop-into-quads-pow2 c = search needs
 chop-into-quads-pow2-requires : tie.Need-chop-into-quads-pow2-requires
 chop-into-quads-pow2-requires c κs = search needs
 
-mul-store-rounded : tie.Need-mul-store-rounded
-mul-store-rounded c = search needs
+slice-aggregate-store-tested : tie.Need-slice-aggregate-store-tested
+slice-aggregate-store-tested c = search needs
 
-add-store-rounded : tie.Need-add-store-rounded
-add-store-rounded c = search needs
+mul-store-tested : tie.Need-mul-store-tested
+mul-store-tested c = search needs
 
-sub-store-rounded : tie.Need-sub-store-rounded
-sub-store-rounded c = search needs
+add-store-tested : tie.Need-add-store-tested
+add-store-tested c = search needs
 
-part-store-rounded-start : tie.Need-part-store-rounded-start
-part-store-rounded-start c = search needs
+sub-store-tested : tie.Need-sub-store-tested
+sub-store-tested c = search needs
 
-part-store-rounded-end : tie.Need-part-store-rounded-end
-part-store-rounded-end c =
-    let s = c .before .before .before .before .before .before .before .before in
-    omega (arith, spans-most (s .args .level) (s .pre .0), c .before .before .before .before .before .before .spans .ensures, c .before .before .before .chop-into-quads-pow2 .kept .0)
+part-store-tested-start : tie.Need-part-store-tested-start
+part-store-tested-start c = search needs
 
-mul-store-rounded-2 : tie.Need-mul-store-rounded-2
-mul-store-rounded-2 c = search needs
-
-add-store-rounded-2 : tie.Need-add-store-rounded-2
-add-store-rounded-2 c = search needs
-
-store-rounded-requires : tie.Need-store-rounded-requires
-store-rounded-requires c κs =
+part-store-tested-end : tie.Need-part-store-tested-end
+part-store-tested-end c =
     let cut = c .before .before .before .before in
+    let s = cut .before .before .before .before .before in
+    omega (arith, spans-most (s .args .level) (s .pre .0), cut .before .before .before .spans .ensures, cut .chop-into-quads-pow2 .kept .0)
+
+mul-store-tested-2 : tie.Need-mul-store-tested-2
+mul-store-tested-2 c = search needs
+
+add-store-tested-2 : tie.Need-add-store-tested-2
+add-store-tested-2 c = search needs
+
+store-tested-requires : tie.Need-store-tested-requires
+store-tested-requires c κs =
+    let cut = c .before .before .before .before .before in
     let s = cut .before .before .before .before .before in
     let spans = cut .before .before .before .spans in
     let n = s .args .level in
@@ -79,8 +83,8 @@ store-rounded-requires c κs =
 enum-told : tie.Need-enum-told
 enum-told c = search needs
 
-add-t25 : tie.Need-add-t25
-add-t25 c = search needs
+add-t28 : tie.Need-add-t28
+add-t28 c = search needs
 
 enum-known-why : tie.Need-enum-known-why
 enum-known-why c = search needs
@@ -90,25 +94,25 @@ same-length c = search needs
 
 returns : tie.Need-returns
 returns c =
-    let stored = c .before .before .before .before in
-    let cut = stored .before .before .before .before .before in
+    let stored = c .before .before .before .before .before in
+    let cut = stored .before .before .before .before .before .before in
     let s = cut .before .before .before .before .before in
     let spans = cut .before .before .before .spans in
     let t = roundedOf (pointsOf (take (4 * spans .result + 2 - 0) (cut .chop-into-quads-pow2 .last .0))) in
-    stored-made (s .args .level) (s .args .c) (s .args .table .now) (s .pre .0) (s .pre .1) t (stored .store-rounded .last .0) (stored .store-rounded .result)
-    (ap roundedOf (points-are cut)) (stored .store-rounded .ensures .0) (stored .store-rounded .ensures .1) (spans .result) (spans .ensures) (c .enum-told .given .1)
+    stored-made (s .args .level) (s .args .c) (s .args .table .now) (s .pre .0) (s .pre .1) t (stored .store-tested .last .0) (stored .store-tested .result)
+    (ap roundedOf (points-are cut)) (stored .store-tested .ensures .0) (stored .store-tested .ensures .1) (spans .result) (spans .ensures) (c .enum-told .given .1)
 
 same-length-2 : tie.Need-same-length-2
 same-length-2 c = search needs
 
 returns-2 : tie.Need-returns-2
 returns-2 c =
-    let stored = c .before .before .before .before .before in
-    let cut = stored .before .before .before .before .before in
+    let stored = c .before .before .before .before .before .before in
+    let cut = stored .before .before .before .before .before .before in
     let s = cut .before .before .before .before .before in
     let t = roundedOf (pointsOf (take (4 * cut .before .before .before .spans .result + 2 - 0) (cut .chop-into-quads-pow2 .last .0))) in
-    stored-refused (s .args .level) (s .args .c) (s .args .table .now) (s .pre .0) (s .pre .1) t (stored .store-rounded .last .0) (stored .store-rounded .result)
-    (ap roundedOf (points-are cut)) (stored .store-rounded .ensures .0) (stored .store-rounded .ensures .1) (c .before .why .given .0 .0) (c .before .why .given .1)
+    stored-refused (s .args .level) (s .args .c) (s .args .table .now) (s .pre .0) (s .pre .1) t (stored .store-tested .last .0) (stored .store-tested .result)
+    (ap roundedOf (points-are cut)) (stored .store-tested .ensures .0) (stored .store-tested .ensures .1) (c .before .why .given .0 .0) (c .before .why .given .1)
 
 pub store-spec : {M : Type 1} → statement M
 store-spec =
@@ -118,16 +122,17 @@ store-spec =
     new-requires
     slice-aggregate-chop-into-quads-pow2
     chop-into-quads-pow2-requires
-    mul-store-rounded
-    add-store-rounded
-    sub-store-rounded
-    part-store-rounded-start
-    part-store-rounded-end
-    mul-store-rounded-2
-    add-store-rounded-2
-    store-rounded-requires
+    slice-aggregate-store-tested
+    mul-store-tested
+    add-store-tested
+    sub-store-tested
+    part-store-tested-start
+    part-store-tested-end
+    mul-store-tested-2
+    add-store-tested-2
+    store-tested-requires
     enum-told
-    add-t25
+    add-t28
     enum-known-why
     same-length
     returns

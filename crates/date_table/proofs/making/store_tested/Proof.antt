@@ -1,18 +1,14 @@
--- `store_rounded` meets its contract: what is tested is what is stored. Assumes nothing.
+-- `store_tested` meets its contract: what is tested is what is stored. Assumes nothing.
 use mathlib.Core.Path.{_≡_, refl, sym, ap, _∙_}
 use Prim.Native.Nat.{_≤_}
-use Rattle.conic.specs.Level.{ceiling}
 use Rattle.point.specs.Numbers.{pointsOf}
 use Rattle.date_table.specs.declared.Check.{Check}
-use Rattle.date_table.specs.Making.{roundedOf, tableRoom, storedBy}
+use Rattle.date_table.specs.Making.{roundedOf, storedBy}
 use Rattle.date_table.specs.Table.{checkOf}
 use Rattle.date_table.proofs.Answers.{in-front}
 use borrow.Author.Needs.{needs}
-use Rattle.date_table.proofs.making.store_rounded.Statement.{statement}
-use Rattle.date_table.proofs.making.store_rounded.Tie as tie
-
-slice-aggregate-round-into : tie.Need-slice-aggregate-round-into
-slice-aggregate-round-into c = search needs
+use Rattle.date_table.proofs.making.store_tested.Statement.{statement}
+use Rattle.date_table.proofs.making.store_tested.Tie as tie
 
 round-into-requires : tie.Need-round-into-requires
 round-into-requires c κs = search needs
@@ -41,35 +37,40 @@ enum-told-2 c = search needs
 same-length : tie.Need-same-length
 same-length c = search needs
 
+same-length-2 : tie.Need-same-length-2
+same-length-2 c = search needs
+
 -- what was tested are the rounded numbers
-tested : (c : tie.After-test) → c .test .result ≡ checkOf (roundedOf (pointsOf (c .before .before .before .before .before .before .before .before .args .points .now)))
+tested : (c : tie.After-test) → c .test .result ≡ checkOf (roundedOf (pointsOf (c .before .before .before .before .before .before .before .before .before .before .args .points .now)))
 tested c =
-    let s = c .before .before .before .before .before .before .before .before in
-    let into = c .before .before .before .before .round-into in
+    let s = c .before .before .before .before .before .before .before .before .before .before in
+    let into = c .before .before .before .before .before .round-into in
     let t = roundedOf (pointsOf (s .args .points .now)) in
-    c .test .ensures ∙ ap checkOf (in-front t (into .last .0) (tableRoom ceiling) (s .args .n) (into .ensures) (s .pre .0) (s .pre .1 .1))
+    c .test .ensures ∙ ap checkOf (in-front t (into .last .0) (s .args .rounded .now) (s .args .n) (into .ensures) (s .pre .0) (s .pre .1 .1))
 
 returns : tie.Need-returns
 returns c =
     let found = c .before .before .before .before .before .before in
-    let s = found .before .before .before .before .before .before .before .before in
+    let s = found .before .before .before .before .before .before .before .before .before .before in
     let told = c .before .before .before .before .enum-told .given .1 in
     let t = roundedOf (pointsOf (s .args .points .now)) in
     (tested found, c .before .before .round-into2 .ensures ∙ ap (λ (k : Check). storedBy k (s .args .table .now) t) (sym told))
 
+same-length-3 : tie.Need-same-length-3
+same-length-3 c = search needs
+
 returns-2 : tie.Need-returns-2
 returns-2 c =
     let found = c .before .before in
-    let s = found .before .before .before .before .before .before .before .before in
+    let s = found .before .before .before .before .before .before .before .before .before .before in
     let told = c .enum-told2 .given .1 in
     let t = roundedOf (pointsOf (s .args .points .now)) in
     (tested found, ap (λ (k : Check). storedBy k (s .args .table .now) t) (sym told))
 
-pub store-rounded-spec : {M : Type 1} → statement M
-store-rounded-spec =
+pub store-tested-spec : {M : Type 1} → statement M
+store-tested-spec =
     tie.close
     (tie.spec
-    slice-aggregate-round-into
     round-into-requires
     sub-test
     part-test-start
@@ -79,5 +80,7 @@ store-rounded-spec =
     round-into-requires-2
     enum-told-2
     same-length
+    same-length-2
     returns
+    same-length-3
     returns-2)
