@@ -1,9 +1,10 @@
 -- `part_way` meets its contract: the product of two u32 fits a u64, and the date is at most the next y. Assumes nothing.
 use Prim.Native.Nat.{_≤_, _<_, _+_, _-_, _*_, _/_}
-use native.Mathlib.Nat.{mul-le-mul}
+use native.Mathlib.Nat.{mul-le-mul, lt-of-le-of-lt}
 use native.Mathlib.Omega.{arith}
 use Rattle.date_table.proofs.Walk.{between-le}
 use borrow.Author.Needs.{needs}
+use lib.Dec.{lit<}
 use Rattle.date_table.proofs.lookup.part_way.Statement.{statement}
 use Rattle.date_table.proofs.lookup.part_way.Tie as tie
 
@@ -20,12 +21,7 @@ cast-part-2 : tie.Need-cast-part-2
 cast-part-2 c = search needs
 
 mul-part : tie.Need-mul-part
-mul-part c =
-    let a = c .args in
-    let p : a .r - a .x ≤ 4294967295 = omega arith in
-    let q : a .next-y - a .y ≤ 4294967295 = omega arith in
-    let m : (a .r - a .x) * (a .next-y - a .y) ≤ 4294967295 * 4294967295 = mul-le-mul p q in
-    omega arith
+mul-part c = record { fits = lt-of-le-of-lt (mul-le-mul {n₂ = 4294967295} {m₂ = 4294967295} (omega arith) (omega arith)) (lit< tt) }
 
 sub-part-3 : tie.Need-sub-part-3
 sub-part-3 c = search needs

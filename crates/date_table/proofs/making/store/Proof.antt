@@ -78,7 +78,8 @@ store-tested-requires c κs =
     let spans = cut .before .before .before .spans in
     let n = s .args .level in
     let long = ap (λ (ps : List Point). length (roundedOf ps)) (points-are cut) ∙ table-length n (s .args .c) in
-    (omega (arith, long, spans .ensures), (omega (arith, s .pre .1, spans .ensures), omega (arith, spans-most n (s .pre .0), spans .ensures)))
+    let most = spans-most n (s .pre .0) in
+    (omega (arith, long, spans .ensures), (omega (arith, s .pre .1, most, spans .ensures), omega (arith, s .pre .1, most, spans .ensures)))
 
 enum-told : tie.Need-enum-told
 enum-told c = search needs
