@@ -45,17 +45,30 @@ fn round_into(out: &mut [u32], points: &[f32])
     }
 }
 
-// Stores the same in `table`, n numbers, if they make one. They are rounded into another buffer first, since nothing may be
-// stored before all are tested.
+// Stores the numbers of `from` at the start.
+fn copy_into(out: &mut [u32], from: &[u32])
+    requires { ⌜ length (now from) ≤ length (now out) ⌝ }
+    ensures { λ _. ⌜ now (out .exit) ≡ sets (now (out .entry)) 0 (now (from .entry)) ⌝ }
+{
+    let mut i = 0;
+    while i < from.len() {
+        out[i] = from[i];
+        i += 1;
+    }
+}
+
+// Stores every second point, rounded down to n numbers, in `table`, if they make one. They are rounded into another buffer,
+// since nothing may be stored before all are tested.
 fn store_tested(table: &mut [u32], rounded: &mut [u32], points: &[f32], n: usize) -> Check
     requires { ⌜ length (roundedOf (pointsOf (now points))) ≡ n ⌝ ∗ ⌜ n ≤ length (now table) ⌝ ∗ ⌜ n ≤ length (now rounded) ⌝ }
     ensures { λ r. ⌜ r ≡ checkOf (roundedOf (pointsOf (now (points .entry)))) ⌝ }
     ensures table { λ r. ⌜ now (table .exit) ≡ storedBy r (now (table .entry)) (roundedOf (pointsOf (now (points .entry)))) ⌝ }
 {
     round_into(rounded, points);
-    let found = lookup::test(&rounded[0..n]);
+    let whole = &rounded[0..n];
+    let found = lookup::test(whole);
     if let Check::Passed = found {
-        round_into(table, points);
+        copy_into(table, whole);
     }
     found
 }

@@ -1,6 +1,9 @@
 -- `store_tested` meets its contract: what is tested is what is stored. Assumes nothing.
 use mathlib.Core.Path.{_≡_, refl, sym, ap, _∙_}
-use Prim.Native.Nat.{_≤_}
+use mathlib.Core.List.{List}
+use Prim.Native.Nat.{ℕ, _-_, _≤_}
+use lib.ListN.{take}
+use lib.Seq.{sets}
 use Rattle.point.specs.Numbers.{pointsOf}
 use Rattle.date_table.specs.declared.Check.{Check}
 use Rattle.date_table.specs.Making.{roundedOf, storedBy}
@@ -13,14 +16,14 @@ use Rattle.date_table.proofs.making.store_tested.Tie as tie
 round-into-requires : tie.Need-round-into-requires
 round-into-requires c κs = search needs
 
-sub-test : tie.Need-sub-test
-sub-test c = search needs
+sub-whole : tie.Need-sub-whole
+sub-whole c = search needs
 
-part-test-start : tie.Need-part-test-start
-part-test-start c = search needs
+part-whole-start : tie.Need-part-whole-start
+part-whole-start c = search needs
 
-part-test-end : tie.Need-part-test-end
-part-test-end c = search needs
+part-whole-end : tie.Need-part-whole-end
+part-whole-end c = search needs
 
 test-requires : tie.Need-test-requires
 test-requires c κs = search needs
@@ -28,8 +31,8 @@ test-requires c κs = search needs
 enum-told : tie.Need-enum-told
 enum-told c = search needs
 
-round-into-requires-2 : tie.Need-round-into-requires-2
-round-into-requires-2 c κs = search needs
+copy-into-requires : tie.Need-copy-into-requires
+copy-into-requires c κs = search needs
 
 enum-told-2 : tie.Need-enum-told-2
 enum-told-2 c = search needs
@@ -40,21 +43,23 @@ same-length c = search needs
 same-length-2 : tie.Need-same-length-2
 same-length-2 c = search needs
 
--- what was tested are the rounded numbers
-tested : (c : tie.After-test) → c .test .result ≡ checkOf (roundedOf (pointsOf (c .before .before .before .before .before .before .before .before .before .before .args .points .now)))
-tested c =
+-- the numbers at the front of the buffer are the rounded ones
+whole-is : (c : tie.After-test) → let s = c .before .before .before .before .before .before .before .before .before .before in
+    take (s .args .n - 0) (c .before .before .before .before .before .round-into .last .0) ≡ roundedOf (pointsOf (s .args .points .now))
+whole-is c =
     let s = c .before .before .before .before .before .before .before .before .before .before in
     let into = c .before .before .before .before .before .round-into in
-    let t = roundedOf (pointsOf (s .args .points .now)) in
-    c .test .ensures ∙ ap checkOf (in-front t (into .last .0) (s .args .rounded .now) (s .args .n) (into .ensures) (s .pre .0) (s .pre .1 .1))
+    in-front (roundedOf (pointsOf (s .args .points .now))) (into .last .0) (s .args .rounded .now) (s .args .n) (into .ensures) (s .pre .0) (s .pre .1 .1)
 
 returns : tie.Need-returns
 returns c =
     let found = c .before .before .before .before .before .before in
     let s = found .before .before .before .before .before .before .before .before .before .before in
     let told = c .before .before .before .before .enum-told .given .1 in
-    let t = roundedOf (pointsOf (s .args .points .now)) in
-    (tested found, c .before .before .round-into2 .ensures ∙ ap (λ (k : Check). storedBy k (s .args .table .now) t) (sym told))
+    let t = roundedOf (pointsOf (s .args .points .now)) in (
+      found .test .ensures ∙ ap checkOf (whole-is found),
+      c .before .before .copy-into .ensures ∙ ap (sets (s .args .table .now) 0) (whole-is found) ∙ ap (λ (k : Check). storedBy k (s .args .table .now) t) (sym told),
+    )
 
 same-length-3 : tie.Need-same-length-3
 same-length-3 c = search needs
@@ -65,19 +70,19 @@ returns-2 c =
     let s = found .before .before .before .before .before .before .before .before .before .before in
     let told = c .enum-told2 .given .1 in
     let t = roundedOf (pointsOf (s .args .points .now)) in
-    (tested found, ap (λ (k : Check). storedBy k (s .args .table .now) t) (sym told))
+    (found .test .ensures ∙ ap checkOf (whole-is found), ap (λ (k : Check). storedBy k (s .args .table .now) t) (sym told))
 
 pub store-tested-spec : {M : Type 1} → statement M
 store-tested-spec =
     tie.close
     (tie.spec
     round-into-requires
-    sub-test
-    part-test-start
-    part-test-end
+    sub-whole
+    part-whole-start
+    part-whole-end
     test-requires
     enum-told
-    round-into-requires-2
+    copy-into-requires
     enum-told-2
     same-length
     same-length-2
