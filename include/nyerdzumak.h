@@ -7,8 +7,9 @@
  * NZ_ENTRY_OUT_OF_RANGE, then NZ_TABLE_FALLS, then the others. A call that cannot refuse returns what it gives, or nothing.
  * So every uint32_t that is called an answer here is worth testing.
  *
- * OUTPUTS. An output that has no value keeps its contents: all of them beside a refusal, but for first_bad of nz_date_all,
- * and places for roots past those that were found. A buffer that is longer than needed keeps its tail.
+ * OUTPUTS. An output that has no value keeps its contents: places for roots past those that were found, and all outputs
+ * beside a refusal, but that nz_date_all stores *first_bad for NZ_TIME_OUTSIDE. A buffer that is longer than needed keeps its
+ * tail. No output may be NULL.
  *
  * BUFFERS. Points, and entries of date tables, are numbers, x then y. A lent buffer is a pointer and then its length in
  * numbers, not in points, entries or bytes. The pointer must be good for that length and must not be NULL, not even with
@@ -124,7 +125,7 @@ bool nz_between_exact(float a, float b, float c);
 
 /* ---- dates: tables of whole milliseconds, for each entry x, a recorded time, and y, its date ---- */
 
-/* Proved: a later recorded time never gets an earlier date, whatever the table. And a bridge whose points have every
+/* Proved: of two recorded times that one table dates, the later never gets the earlier date, whatever the table. And a bridge whose points have every
  * coordinate from 0 to NZ_MAX_ENTRY and rise from start to middle to end in x and in y, ties allowed, is never refused with
  * NZ_ENTRY_OUT_OF_RANGE or NZ_TABLE_FALLS, whatever the weight; the first and the last entry of its table are its ends
  * rounded down, and every time from the first x to the last is dated. Nothing has to be tested before: what makes no table is

@@ -8,7 +8,7 @@ use Rattle.bridge_lines.specs.declared.Fault.the-variants.{NoNumber, Out
 use Rattle.bridge_lines.specs.declared.Line.{Line}
 use Rattle.bridge_lines.specs.declared.Line.the-variants as L
 use Rattle.bridge_lines.specs.declared.PadLine.{PadLine}
-use Rattle.bridge_lines.specs.declared.PadLine.the-variants.{Blank, Bridge, BadBridge, Stroke, BadStroke, OtherWord}
+use Rattle.bridge_lines.specs.declared.PadLine.the-variants.{Blank, Bridge, BadBridge, Stroke, BadStroke, MaybeBridge, OtherWord}
 use Rattle.bridge_lines.specs.Decimal.{isWhole, sizeOf}
 use Rattle.bridge_lines.specs.Reading.{lineOf}
 use Rattle.bridge_lines.specs.Words.{isHash, before, wordsOf}
@@ -43,11 +43,15 @@ strokeOf (w ∷ ws) =
     (BadStroke 1 OutOfRange))
     (BadStroke 1 NoNumber)
 
+-- with another first word, eight words or more, as many as a bridge has without it, may have been a bridge
+unfoldable pub otherOf : List (List ℕ) → PadLine
+otherOf ws = cond (ltb 7 (length ws)) MaybeBridge OtherWord
+
 -- the first word says what the others are
 unfoldable pub padLineOf : List (List ℕ) → PadLine
-unfolding same bridgeOr strokeOf
+unfolding same bridgeOr strokeOf otherOf
 padLineOf [] = Blank
-padLineOf (w ∷ ws) = cond (same w bridgeWord) (bridgeOr (lineOf ws)) (cond (same w strokeWord) (strokeOf ws) OtherWord)
+padLineOf (w ∷ ws) = cond (same w bridgeWord) (bridgeOr (lineOf ws)) (cond (same w strokeWord) (strokeOf ws) (otherOf (w ∷ ws)))
 
 -- a line that is too long is a bad stroke by its first word, and else a bad bridge, since it may have been one
 unfoldable pub tooLongOf : List (List ℕ) → PadLine

@@ -1,4 +1,4 @@
-// Bridges as lines of text: a line is read to a bridge or to what is wrong with it.
+// Bridges, and strokes, as lines of text: a line is read to one of them or to what is wrong with it.
 ghost use mathlib.Core.Path.{_≡_};
 ghost use Rattle.bridge_lines.specs.Pad.{padOf};
 ghost use Rattle.bridge_lines.specs.Reading.{readOf};
@@ -11,7 +11,7 @@ mod reading;
 mod scan;
 
 // What is wrong with a line: a word that is no number of the kind that its place takes; a number that is too large or
-// has too many decimals; fewer than eight words; more than eight; more than 256 bytes.
+// has too many decimals; too few words, eight for a bridge and one for a stroke; too many; more bytes than a line may have.
 pub enum Fault {
     NoNumber,
     OutOfRange,
@@ -41,6 +41,9 @@ pub enum PadLine {
     BadBridge(u32, Fault),
     Stroke(u32),
     BadStroke(u32, Fault),
+    // Another first word, and eight words or more.
+    MaybeBridge,
+    // Another first word, and fewer.
     OtherWord,
 }
 
@@ -60,7 +63,8 @@ pub fn read(line: &[u8]) -> Line
 
 // Reads a line of a pad's file without its newline: `bridge` and then the numbers as `read` takes them, or `stroke` and
 // then a recorded time, whole, without a sign and at most 4294967295; blanks and comments as there. A line of more than 256
-// bytes before its comment is bad: a stroke where its first word says so, and else a bridge, since it may have been one.
+// bytes before its comment, which `read` counts and this does not, is bad: a stroke where its first word says so, and else a
+// bridge, since it may have been one.
 pub fn read_pad(line: &[u8]) -> PadLine
     ensures { λ r. ⌜ r ≡ padOf (now (line .entry)) ⌝ }
 {

@@ -4,7 +4,7 @@ ghost use mathlib.Core.Bool.{true};
 ghost use Prim.Native.Nat.{min};
 ghost use lib.ListN.{drop};
 ghost use Rattle.bridge_lines.specs.Decimal.{isWhole, sizeOf};
-ghost use Rattle.bridge_lines.specs.Pad.{same, bridgeOr, strokeOf, padLineOf, tooLongOf};
+ghost use Rattle.bridge_lines.specs.Pad.{same, bridgeOr, strokeOf, otherOf, padLineOf, tooLongOf};
 ghost use Rattle.bridge_lines.specs.Reading.{lineOf};
 ghost use Rattle.bridge_lines.specs.Words.{wordsOf};
 use super::Fault;
@@ -83,6 +83,16 @@ fn stroke(text: &[u8]) -> PadLine
     PadLine::Stroke(r as u32)
 }
 
+// What a line with another first word comes to: one that is as long as a bridge may have been one.
+fn other(text: &[u8]) -> PadLine
+    ensures { λ r. ⌜ r ≡ otherOf (wordsOf (now (text .entry))) ⌝ }
+{
+    if scan::word(text, 7).len() > 0 {
+        return PadLine::MaybeBridge;
+    }
+    PadLine::OtherWord
+}
+
 // What a line without its comment comes to.
 pub fn line(text: &[u8]) -> PadLine
     ensures { λ r. ⌜ r ≡ padLineOf (wordsOf (now (text .entry))) ⌝ }
@@ -97,7 +107,7 @@ pub fn line(text: &[u8]) -> PadLine
     if is_word(w, b"stroke") {
         return stroke(past_word(text));
     }
-    PadLine::OtherWord
+    other(text)
 }
 
 // What it comes to where the line is too long.

@@ -17,8 +17,8 @@ use Rattle.conic.specs.Level.{ceiling}
 use Rattle.conic_cut.specs.Cut.{room, cutBuffer}
 use Rattle.conic_cut.proofs.Lists.{sets-whole, sets-take}
 use Rattle.conic_cut.proofs.Stores.{flat-length, points-flat, written-length}
-use Rattle.date_table.specs.declared.Check.{Check}
-use Rattle.date_table.specs.declared.Check.the-variants as C
+use Rattle.date_table.specs.declared.lookup.Check.{Check}
+use Rattle.date_table.specs.declared.lookup.Check.the-variants as C
 use Rattle.date_table.specs.declared.Made.{Made}
 use Rattle.date_table.specs.declared.Made.the-variants.{Entries, Refused}
 use Rattle.date_table.specs.declared.Refusal.{Refusal}

@@ -7,16 +7,16 @@ use native.Mathlib.Omega.{arith}
 use borrow.Author.Tests.{leb-true, ltb-false, le-ltb, eqb-true, eqb-false}
 use lib.Dec.{leb, ltb, eqb}
 use lib.ListN.{length}
-use Rattle.date_table.specs.declared.Check.{Check}
-use Rattle.date_table.specs.declared.Check.the-variants as C
+use Rattle.date_table.specs.declared.lookup.Check.{Check}
+use Rattle.date_table.specs.declared.lookup.Check.the-variants as C
 use Rattle.date_table.specs.declared.Dated.{Dated}
 use Rattle.date_table.specs.declared.Dated.the-variants as D
 use Rattle.date_table.specs.declared.Refusal.{Refusal}
 use Rattle.date_table.specs.declared.Refusal.the-variants.{BufferTooShort, OddLength, EntryOutOfRange, TimeOutside, TableFalls}
-use Rattle.date_table.specs.Answers.{numberOfDated, valuesOfDated}
+use Rattle.date_table.specs.Answers.{numberOfRefusal, valuesOfRefusal, numberOfDated, valuesOfDated}
 use Rattle.date_table.specs.Laws.{LaterIsNotEarlier, DatesLieInTheTable, DatesAreInRange, EveryTimeIsDated, NoOtherIsDated, TheLastIsKept}
 use Rattle.date_table.specs.Table.{within, rising, refuseTable, checkOf, firstX, firstY, lastX, lastY, dateIn, outside, refuseTime, dateOf, DatedAt}
-use Rattle.date_table.specs.Whole.{top}
+use Rattle.date_table.specs.Whole.{maxEntry}
 use Rattle.date_table.proofs.Walk.{and-parts, Good, one, more, good-of, ends-x, walk, walk-low, walk-high, walk-mono, walk-last, date-walk}
 
 pub absurd-0 : {A : Type 0} → _≡_ {A = ℕ} 0 1 → A
@@ -114,12 +114,12 @@ in-table l r d p =
     let g = sound l (t .passed) .good in
     rw (told l r d t) (walk-low r g, walk-high r g)
 
-last-low : {l : List ℕ} → Good l → within l ≡ true → lastY l ≤ top
+last-low : {l : List ℕ} → Good l → within l ≡ true → lastY l ≤ maxEntry
 unfolding within lastY
-last-low (one x y) h = leb-true y top (and-parts (leb y top) true (and-parts (leb x top) (leb y top && true) h .1) .0)
+last-low (one x y) h = leb-true y maxEntry (and-parts (leb y maxEntry) true (and-parts (leb x maxEntry) (leb y maxEntry && true) h .1) .0)
 last-low (more x y x′ y′ l xs ys g) h =
     let rest = within (x′ ∷ y′ ∷ l) in
-    last-low g (and-parts (leb y top) rest (and-parts (leb x top) (leb y top && rest) h .1) .1)
+    last-low g (and-parts (leb y maxEntry) rest (and-parts (leb x maxEntry) (leb y maxEntry && rest) h .1) .1)
 
 -- so that a date is a number that a table may hold
 pub in-range : DatesAreInRange
@@ -175,3 +175,22 @@ dated-at {l} {r} {d} e = record { answer = e; number = of-dated numberOfDated l 
 pub table-refused : (l : List ℕ) (r : ℕ) (why : Refusal) → checkOf l ≡ C.Refused why → DatedAt l r (D.Refused why)
 unfolding dateOf
 table-refused l r why p = dated-at (refused-too l D.Refused (cond (outside l r) (D.Refused TimeOutside) (D.Date (dateIn l r))) why p)
+
+-- ---- what the number 0 tells
+told-zero : (e h w u o : Bool) → 0 ≡ chosen e h w u numberOfRefusal (cond o 11 0) → (chosen e h w u C.Refused C.Passed ≡ C.Passed) × (o ≡ false)
+told-zero true h w u o p = absurd (omega arith)
+told-zero false false w u o p = absurd (omega arith)
+told-zero false true false u o p = absurd (omega arith)
+told-zero false true true false o p = absurd (omega arith)
+told-zero false true true true true p = absurd (omega arith)
+told-zero false true true true false p = (refl, refl)
+
+-- there is a date, and it is the value
+pub answered-zero : (l : List ℕ) (r : ℕ) → 0 ≡ refuseTime l r numberOfRefusal 0
+    → (dateOf l r ≡ D.Date (dateIn l r)) × (refuseTime l r valuesOfRefusal (dateIn l r ∷ []) ≡ dateIn l r ∷ [])
+unfolding dateOf checkOf
+answered-zero l r p =
+    let q = told-zero (eqb (length l) 0) (eqb (length l % 2) 0) (within l) (rising l) (outside l r) p in (
+      passed-well l D.Refused (cond (outside l r) (D.Refused TimeOutside) (D.Date (dateIn l r))) (q .0) ∙ rw (q .1),
+      passed-well l valuesOfRefusal (cond (outside l r) [] (dateIn l r ∷ [])) (q .0) ∙ rw (q .1),
+    )

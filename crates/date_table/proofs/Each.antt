@@ -8,7 +8,7 @@ use borrow.Author.Tests.{ltb-false}
 use lib.Dec.{ltb, eqb}
 use lib.ListN.{length, getD}
 use Rattle.date_table.specs.declared.AllDated.the-variants.{Dates, OutsideAt, Refused}
-use Rattle.date_table.specs.declared.Check.the-variants as C
+use Rattle.date_table.specs.declared.lookup.Check.the-variants as C
 use Rattle.date_table.specs.declared.Dated.the-variants.{Date}
 use Rattle.date_table.specs.Laws.{EachAsAlone}
 use Rattle.date_table.specs.All.{firstOutside, allAnswer, allTimes}

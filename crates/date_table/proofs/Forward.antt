@@ -27,10 +27,10 @@ use Rattle.conic.specs.Rule.{Axis, X, Y, testAlong}
 use Rattle.conic_cut.specs.Order.{Steps, ge, AllFiniteCoordinates, firstOf, lastOf, Premise, InOrder}
 use Rattle.conic_cut.proofs.Order.{cut-in-order}
 use Rattle.conic_cut.proofs.Stores.{written-length}
-use Rattle.date_table.specs.declared.Check.the-variants as C
+use Rattle.date_table.specs.declared.lookup.Check.the-variants as C
 use Rattle.date_table.specs.declared.Made.{Made}
 use Rattle.date_table.specs.declared.Made.the-variants.{Entries}
-use Rattle.date_table.specs.Forward.{Forward, tableIn, Dates, NeverRefused}
+use Rattle.date_table.specs.Forward.{Forward, tableIn, DatesThrough, NeverRefused}
 use Rattle.date_table.specs.Making.{byBothAxes, everySecond, takenOf, roundedOf, allInRange, cutOf, tableRoom, madeAnswer, madeTable, MadeInto}
 use Rattle.date_table.specs.Table.{rising, checkOf, firstX, firstY, lastX, lastY, dateIn}
 use Rattle.date_table.specs.Whole.{inRange, wholeOf}
@@ -38,7 +38,7 @@ use Rattle.date_table.proofs.Dates.{absurd-0, sound, dated, walked}
 use Rattle.date_table.proofs.Answers.{table, table-length, made}
 use Rattle.date_table.proofs.Pass.{is-well}
 use Rattle.date_table.proofs.Taken.{within-all}
-use Rattle.date_table.proofs.Walk.{walk-mono}
+use Rattle.date_table.proofs.Walk.{ends-x, walk-mono}
 use Rattle.date_table.proofs.Rounding.{T-true, order-kept}
 
 -- ---- floats in range
@@ -202,12 +202,13 @@ module _ (n : ℕ) (c : Conic) (f : Forward c) where
       let some : length t ≡ 0 → ⊥ = λ z. omega arith in
       sym (is-well t some (omega arith) (within-all (takenOf (cutOf n c)) ∙ led-cut .within) (led-cut .rises))
 
-  dates : Dates c t
+  dates : DatesThrough c t
   dates = record {
     first-x = led-cut .first-x;
     first-y = led-cut .first-y;
     last-x = led-cut .last-x;
     last-y = led-cut .last-y;
+    runs = ends-x (sound t passes .good);
     dated = λ r a b. dated t r passes a b;
     in-order = λ r s a h b.
         rw (walked t r passes a (omega arith), walked t s passes (omega arith) b) (walk-mono r s h (sound t passes .good));
@@ -220,7 +221,7 @@ never-refused n c l r l₁ e b low fits f =
     let m = made n c l low fits (passes n c f) in
     let stored : l₁ ≡ t ++ drop (tableRoom n) l = b ∙ sym (m .1) in
     let there : tableIn n l₁ ≡ t = ap (take (tableRoom n)) stored ∙ take-at t (drop (tableRoom n) l) (tableRoom n) (table-length n c) in
-    (e ∙ sym (m .0), (subst⁻¹ (Dates c) there (dates n c f), ap (drop (tableRoom n)) stored ∙ drop-at t (drop (tableRoom n) l) (tableRoom n) (table-length n c)))
+    (e ∙ sym (m .0), (subst⁻¹ (DatesThrough c) there (dates n c f), ap (drop (tableRoom n)) stored ∙ drop-at t (drop (tableRoom n) l) (tableRoom n) (table-length n c)))
 
 -- with the rest of the contract; and of a lent source
 pub promised : {n : ℕ} {c : Conic} {l : List ℕ} {r : Made} {l₁ : List ℕ} → MadeInto n c false l r l₁ → MadeInto n c false l r l₁ × NeverRefused (Entries (2 ^ n + 1)) n c l r l₁

@@ -5,11 +5,11 @@ use mathlib.Core.List.{List}
 use Prim.Native.Nat.{ℕ, suc, _+_, _-_, _≤_, _<_}
 use native.Mathlib.Omega.{arith}
 use lib.ListN.{length, getD}
-use Rattle.date_table.specs.declared.Check.the-variants.{Passed}
+use Rattle.date_table.specs.declared.lookup.Check.the-variants.{Passed}
 use Rattle.date_table.specs.declared.Dated.the-variants.{Date, Refused}
 use Rattle.date_table.specs.declared.Refusal.the-variants.{TimeOutside}
 use Rattle.date_table.specs.Search.{Bracket, LastNotAbove}
-use Rattle.date_table.specs.Table.{checkOf, firstX, lastX, between, outside, dateIn, dateOf}
+use Rattle.date_table.specs.Table.{checkOf, firstX, lastX, partWay, outside, dateIn, dateOf}
 use Rattle.date_table.proofs.Dates.{sound, passed-well, dated, walked}
 use Rattle.date_table.proofs.Many.{inside-of}
 use Rattle.date_table.proofs.Places.{good-length, at, first-is}
@@ -33,7 +33,7 @@ module _ (l : List ℕ) (r : ℕ) (p : checkOf l ≡ Passed) where
       pub end : length l - i < 4 → getD l (i + 1) 0 ≡ dateIn l r
       pub next-x : 4 ≤ length l - i → r < getD l (i + 2) 0
       pub next-y : 4 ≤ length l - i → getD l (i + 1) 0 ≤ getD l (i + 3) 0
-      pub span : 4 ≤ length l - i → between r (getD l i 0) (getD l (i + 1) 0) (getD l (i + 2) 0) (getD l (i + 3) 0) ≡ dateIn l r
+      pub span : 4 ≤ length l - i → partWay r (getD l i 0) (getD l (i + 1) 0) (getD l (i + 2) 0) (getD l (i + 3) 0) ≡ dateIn l r
 
     pub here : (i : ℕ) → LastNotAbove l r i → Here i
     here i b =

@@ -8,11 +8,11 @@ use lib.ListN.{length, getD, length-append}
 use lib.Seq.{getD-append-add}
 use Rattle.date_table.specs.declared.Dated.the-variants.{Date}
 use Rattle.date_table.specs.Laws.{EntriesAreKept}
-use Rattle.date_table.specs.Table.{firstX, lastX, between}
+use Rattle.date_table.specs.Table.{firstX, lastX, partWay}
 use Rattle.date_table.proofs.Dates.{sound, dated, walked}
 use Rattle.date_table.proofs.Places.{at}
 
-between-start : (x y x′ y′ : ℕ) → between x x y x′ y′ ≡ y
+between-start : (x y x′ y′ : ℕ) → partWay x x y x′ y′ ≡ y
 between-start x y x′ y′ =
     let z : (x - x) * (y′ - y) ≡ 0 = (let s : x - x ≡ 0 = omega arith in rw s (omega arith)) in
     rw z (let q = zero-div (x′ - x) in omega arith)

@@ -10,7 +10,7 @@ use lib.ListN.{length, getD, set, take, drop, length-map, drop-of-length-le}
 use lib.Seq.{drop-cons, length-take-le, take-all, take-suc, getD-at, set-at, append-snoc}
 use Rattle.date_table.specs.declared.AllDated.{AllDated}
 use Rattle.date_table.specs.declared.AllDated.the-variants.{Dates, OutsideAt, Refused}
-use Rattle.date_table.specs.declared.Check.the-variants as C
+use Rattle.date_table.specs.declared.lookup.Check.the-variants as C
 use Rattle.date_table.specs.declared.Refusal.{Refusal}
 use Rattle.date_table.specs.All.{firstOutside, refuseTimes, allAnswer, allTimes, AllInto}
 use Rattle.date_table.specs.Answers.{numberOfAllDated, valuesOfAllDated}

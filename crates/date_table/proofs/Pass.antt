@@ -8,10 +8,10 @@ use borrow.Author.Tests.{leb-true, le-leb, lt-leb, ltb-true, ltb-false, le-ltb, 
 use lib.Dec.{leb·zero, leb, ltb, eqb}
 use lib.ListN.{length, getD, drop, length-drop, drop-of-length-le}
 use lib.Seq.{getD-drop, drop-drop}
-use Rattle.date_table.specs.declared.Check.the-variants.{Passed, Refused}
+use Rattle.date_table.specs.declared.lookup.Check.the-variants.{Passed, Refused}
 use Rattle.date_table.specs.declared.Refusal.the-variants.{BufferTooShort, OddLength, EntryOutOfRange, TableFalls}
 use Rattle.date_table.specs.Table.{within, rising, checkOf}
-use Rattle.date_table.specs.Whole.{top}
+use Rattle.date_table.specs.Whole.{maxEntry}
 use Rattle.date_table.proofs.Dates.{neither}
 use Rattle.date_table.proofs.Walk.{by-cases}
 
@@ -28,20 +28,20 @@ front : (i : ℕ) (l : List ℕ) → i + 1 < length l → drop i l ≡ getD l i 
 front i l h = front-list (drop i l) (simp length-drop (omega arith)) ∙ rw (at-front, getD-drop, drop-drop)
 
 -- ---- a step of the test
-large : (a b : ℕ) (w : Bool) → (ltb top a || ltb top b) ≡ true → (leb a top && (leb b top && w)) ≡ false
+large : (a b : ℕ) (w : Bool) → (ltb maxEntry a || ltb maxEntry b) ≡ true → (leb a maxEntry && (leb b maxEntry && w)) ≡ false
 large a b w h =
-    by-cases (leb a top)
+    by-cases (leb a maxEntry)
     (λ t.
-    let f : ltb top a ≡ false = le-ltb top a (leb-true a top t) in
-    let u : ltb top b ≡ true = (rw f at h) in
-    let v : leb b top ≡ false = lt-leb b top (ltb-true top b u) in
+    let f : ltb maxEntry a ≡ false = le-ltb maxEntry a (leb-true a maxEntry t) in
+    let u : ltb maxEntry b ≡ true = (rw f at h) in
+    let v : leb b maxEntry ≡ false = lt-leb b maxEntry (ltb-true maxEntry b u) in
     rw (t, v))
     (λ t. rw t)
 
-small : (a b : ℕ) (w : Bool) → (ltb top a || ltb top b) ≡ false → (leb a top && (leb b top && w)) ≡ w
+small : (a b : ℕ) (w : Bool) → (ltb maxEntry a || ltb maxEntry b) ≡ false → (leb a maxEntry && (leb b maxEntry && w)) ≡ w
 small a b w h =
-    let q = neither (ltb top a) (ltb top b) h in
-    rw (le-leb a top (ltb-false top a (q .0)), le-leb b top (ltb-false top b (q .1)))
+    let q = neither (ltb maxEntry a) (ltb maxEntry b) h in
+    rw (le-leb a maxEntry (ltb-false maxEntry a (q .0)), le-leb b maxEntry (ltb-false maxEntry b (q .1)))
 
 module _ (i : ℕ) (l : List ℕ) (here : i + 1 < length l) where
   abbrev a : ℕ
@@ -50,11 +50,11 @@ module _ (i : ℕ) (l : List ℕ) (here : i + 1 < length l) where
   abbrev b : ℕ
   b = getD l (i + 1) 0
 
-  pub too-large : (ltb top a || ltb top b) ≡ true → within (drop i l) ≡ false
+  pub too-large : (ltb maxEntry a || ltb maxEntry b) ≡ true → within (drop i l) ≡ false
   unfolding within
   too-large t = ap within (front i l here) ∙ large a b (within (drop (i + 2) l)) t
 
-  pub none-large : (ltb top a || ltb top b) ≡ false → within (drop i l) ≡ within (drop (i + 2) l)
+  pub none-large : (ltb maxEntry a || ltb maxEntry b) ≡ false → within (drop i l) ≡ within (drop (i + 2) l)
   unfolding within
   none-large t = ap within (front i l here) ∙ small a b (within (drop (i + 2) l)) t
 

@@ -7,7 +7,7 @@ use native.Mathlib.Omega.{arith}
 use borrow.Author.Tests.{le-leb, lt-leb}
 use lib.Dec.{ltb}
 use lib.ListN.{length, getD}
-use Rattle.date_table.specs.Table.{firstX, lastX, outside, between}
+use Rattle.date_table.specs.Table.{firstX, lastX, outside, partWay}
 use Rattle.date_table.proofs.Walk.{Good, one, more, walk, ends-x}
 
 pub good-length : {l : List ℕ} → Good l → 2 ≤ length l
@@ -22,7 +22,7 @@ pub record At (l : List ℕ) (i : ℕ) : Type 0 where
   pub whole : suc (suc i) < length l → suc (suc (suc i)) < length l
   pub ys : suc (suc i) < length l → getD l (suc i) 0 ≤ getD l (suc (suc (suc i))) 0
   pub span : (r : ℕ) → suc (suc i) < length l → getD l i 0 ≤ r → r < getD l (suc (suc i)) 0
-      → walk l r ≡ between r (getD l i 0) (getD l (suc i) 0) (getD l (suc (suc i)) 0) (getD l (suc (suc (suc i))) 0)
+      → walk l r ≡ partWay r (getD l i 0) (getD l (suc i) 0) (getD l (suc (suc i)) 0) (getD l (suc (suc (suc i))) 0)
 
 pub at : {l : List ℕ} (i : ℕ) → i % 2 ≡ 0 → i + 2 ≤ length l → Good l → At l i
 unfolding firstX lastX walk

@@ -10,7 +10,7 @@ use lib.IntN.{pos}
 use lib.Ieee.{Float, nan, inf, fin, up, down, lt, eq, le, toUnsigned}
 use lib.Ieee.Positive.{num, den, den-pos, through}
 use Rattle.date_table.specs.Laws.{RoundedDown, RoundingKeepsOrder}
-use Rattle.date_table.specs.Whole.{top, inRange, wholeOf, LargestNotAbove}
+use Rattle.date_table.specs.Whole.{maxEntry, inRange, wholeOf, LargestNotAbove}
 use Rattle.date_table.proofs.Dates.{absurd-0}
 use Rattle.date_table.proofs.Walk.{by-cases, and-parts}
 
@@ -21,7 +21,7 @@ T-true false t = absurd t
 pub record Inside (x : Float) : Type 0 where
   pub above : lt (fin true 1 (pos 0)) x ≡ true
   pub below : lt x (fin false 1 (pos 64)) ≡ true
-  pub most : num x ≤ top * den x
+  pub most : num x ≤ maxEntry * den x
   pub cut : toUnsigned 64 x ≡ num x / den x
 
 either : (a b : Bool) → (a || b) ≡ true → (a ≡ false → b ≡ true)
@@ -34,7 +34,7 @@ at-most a b s h =
     (λ t. omega (arith, ltb-true a b t))
     (λ t. omega (arith, eqb-true a b (and-parts (eqb a b) s (either (ltb a b) (eqb a b && s) h t) .0)))
 
-quotient-most : (a d : ℕ) → a ≤ top * d → a / d ≤ top
+quotient-most : (a d : ℕ) → a ≤ maxEntry * d → a / d ≤ maxEntry
 quotient-most a d h = let k : a ≤ d * 16777216 = omega arith in div-le-of-le-mul d k
 
 not-negative : (a d : ℕ) → 0 < d → (ltb (a * 1) (1 * 2 ^ 24 * d) || (eqb (a * 1) (1 * 2 ^ 24 * d) && true)) ≡ true
@@ -73,19 +73,19 @@ pub whole-in : (x : Float) → inRange x ≡ true → wholeOf x ≡ num x / den 
 unfolding wholeOf
 whole-in x h = rw h
 
-pub whole-out : (x : Float) → inRange x ≡ false → wholeOf x ≡ top + 1
+pub whole-out : (x : Float) → inRange x ≡ false → wholeOf x ≡ maxEntry + 1
 unfolding wholeOf
 whole-out x h = rw h
 
-pub whole-most : (x : Float) → inRange x ≡ true → wholeOf x ≤ top
+pub whole-most : (x : Float) → inRange x ≡ true → wholeOf x ≤ maxEntry
 whole-most x h = rw (whole-in x h) (quotient-most (num x) (den x) (inside x h .most))
 
 -- a table may hold it exactly where the float is in range
-pub whole-within : (x : Float) → leb (wholeOf x) top ≡ inRange x
+pub whole-within : (x : Float) → leb (wholeOf x) maxEntry ≡ inRange x
 whole-within x =
     by-cases (inRange x)
-    (λ t. le-leb (wholeOf x) top (whole-most x t) ∙ sym t)
-    (λ t. lt-leb (wholeOf x) top (let e = whole-out x t in omega arith) ∙ sym t)
+    (λ t. le-leb (wholeOf x) maxEntry (whole-most x t) ∙ sym t)
+    (λ t. lt-leb (wholeOf x) maxEntry (let e = whole-out x t in omega arith) ∙ sym t)
 
 -- what it means: the quotient is the largest
 pub rounded-down : RoundedDown

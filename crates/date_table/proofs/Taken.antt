@@ -14,7 +14,7 @@ use Rattle.point.specs.Numbers.{flat, pointsOf}
 use Rattle.conic_cut.proofs.Stores.{flat-length}
 use Rattle.date_table.specs.Making.{everySecond, takenOf, roundedOf, allInRange}
 use Rattle.date_table.specs.Table.{within}
-use Rattle.date_table.specs.Whole.{top, inRange, wholeOf}
+use Rattle.date_table.specs.Whole.{maxEntry, inRange, wholeOf}
 use Rattle.date_table.proofs.Rounding.{whole-within}
 
 -- ---- how many they are

@@ -8,7 +8,7 @@ use native.Mathlib.Omega.{arith}
 use borrow.Author.Tests.{leb-true, leb-false, le-leb, lt-leb, eqb-true, eqb-false}
 use lib.Dec.{leb, eqb}
 use lib.ListN.{length}
-use Rattle.date_table.specs.Table.{rising, firstX, firstY, lastX, lastY, orElse, lastFrom, between, spanAt, dateIn}
+use Rattle.date_table.specs.Table.{rising, firstX, firstY, lastX, lastY, orElse, lastFrom, partWay, spanAt, dateIn}
 
 pub by-cases : {P : Type 0} (b : Bool) → (b ≡ true → P) → (b ≡ false → P) → P
 by-cases true f g = f refl
@@ -42,13 +42,13 @@ walk [] r = 0
 walk (x ∷ []) r = 0
 walk (x ∷ y ∷ []) r = y
 walk (x ∷ y ∷ x′ ∷ []) r = 0
-walk (x ∷ y ∷ x′ ∷ y′ ∷ l) r = cond (leb x′ r) (walk (x′ ∷ y′ ∷ l) r) (between r x y x′ y′)
+walk (x ∷ y ∷ x′ ∷ y′ ∷ l) r = cond (leb x′ r) (walk (x′ ∷ y′ ∷ l) r) (partWay r x y x′ y′)
 
 -- ---- between an entry and the next
 part-le : (a d k : ℕ) → a ≤ d → a * k / d ≤ k
 part-le a d k h = div-le-of-le-mul d (mul-le-mul-right k h)
 
-pub between-le : (r x y x′ y′ : ℕ) → r < x′ → y ≤ y′ → between r x y x′ y′ ≤ y′
+pub between-le : (r x y x′ y′ : ℕ) → r < x′ → y ≤ y′ → partWay r x y x′ y′ ≤ y′
 between-le r x y x′ y′ h k =
     let p : (r - x) * (y′ - y) / (x′ - x) ≤ y′ - y = part-le (r - x) (x′ - x) (y′ - y) (omega arith) in
     omega arith
@@ -61,7 +61,7 @@ quotient-mono a b (suc d) h =
     let z : 0 < suc d = omega arith in
     le-div-iff-mul-le z .1 q
 
-pub between-mono : (r s x y x′ y′ : ℕ) → r ≤ s → between r x y x′ y′ ≤ between s x y x′ y′
+pub between-mono : (r s x y x′ y′ : ℕ) → r ≤ s → partWay r x y x′ y′ ≤ partWay s x y x′ y′
 between-mono r s x y x′ y′ h =
     let a : r - x ≤ s - x = omega arith in
     let p : (r - x) * (y′ - y) / (x′ - x) ≤ (s - x) * (y′ - y) / (x′ - x) = quotient-mono _ _ (x′ - x) (mul-le-mul-right (y′ - y) a) in

@@ -27,13 +27,14 @@ pub record Forward (c : Conic) : Type 0 where
 abbrev pub tableIn : ℕ → List ℕ → List ℕ
 tableIn n l = take (tableRoom n) l
 
--- the table t is that of c: its first and its last entry are the ends rounded down, every time from the first x to the last
--- is dated, and a later one not earlier
-pub record Dates (c : Conic) (t : List ℕ) : Type 0 where
+-- a table from c's start to its end: its first and its last entry are these rounded down, every time from the first x to the
+-- last is dated, and a later one not earlier. That its entries are those of c's cut, the rest of the contract says
+pub record DatesThrough (c : Conic) (t : List ℕ) : Type 0 where
   pub first-x : firstX t ≡ wholeOf (c .p0 .x)
   pub first-y : firstY t ≡ wholeOf (c .p0 .y)
   pub last-x : lastX t ≡ wholeOf (c .p2 .x)
   pub last-y : lastY t ≡ wholeOf (c .p2 .y)
+  pub runs : firstX t ≤ lastX t
   pub dated : (r : ℕ) → firstX t ≤ r → r ≤ lastX t → dateOf t r ≡ Date (dateIn t r)
   pub in-order : (r s : ℕ) → firstX t ≤ r → r ≤ s → s ≤ lastX t → dateIn t r ≤ dateIn t s
 
@@ -41,4 +42,4 @@ pub record Dates (c : Conic) (t : List ℕ) : Type 0 where
 abbrev pub NeverRefused : {A : Type 0} → A → ℕ → Conic → List ℕ → A → List ℕ → Type 0
 NeverRefused made n c l r l₁ =
     n ≤ ceiling → tableRoom n ≤ length l → Forward c
-    → (r ≡ made) × (Dates c (tableIn n l₁) × (drop (tableRoom n) l₁ ≡ drop (tableRoom n) l))
+    → (r ≡ made) × (DatesThrough c (tableIn n l₁) × (drop (tableRoom n) l₁ ≡ drop (tableRoom n) l))

@@ -6,11 +6,11 @@ use lib.Dec.{T}
 use lib.ListN.{length, getD}
 use lib.Ieee.{Float, le}
 use Rattle.date_table.specs.declared.AllDated.the-variants.{Dates}
-use Rattle.date_table.specs.declared.Check.the-variants.{Passed}
+use Rattle.date_table.specs.declared.lookup.Check.the-variants.{Passed}
 use Rattle.date_table.specs.declared.Dated.the-variants.{Date}
 use Rattle.date_table.specs.All.{allAnswer, allTimes}
 use Rattle.date_table.specs.Table.{checkOf, firstX, firstY, lastX, lastY, dateIn, dateOf}
-use Rattle.date_table.specs.Whole.{top, inRange, wholeOf, LargestNotAbove}
+use Rattle.date_table.specs.Whole.{maxEntry, inRange, wholeOf, LargestNotAbove}
 
 -- ---- of a lookup
 -- a later time never gets an earlier date
@@ -22,7 +22,7 @@ DatesLieInTheTable = (l : List ℕ) (r d : ℕ) → dateOf l r ≡ Date d → (f
 
 -- so that a date is a number that a table may hold
 abbrev pub DatesAreInRange : Type 0
-DatesAreInRange = (l : List ℕ) (r d : ℕ) → dateOf l r ≡ Date d → d ≤ top
+DatesAreInRange = (l : List ℕ) (r d : ℕ) → dateOf l r ≡ Date d → d ≤ maxEntry
 
 -- every time from the first x to the last, by a table that passes the test
 abbrev pub EveryTimeIsDated : Type 0

@@ -15,8 +15,8 @@ use Rattle.conic.specs.declared.Rule.the-variants.{BothAxes}
 use Rattle.conic.specs.Chop.{conicFrom, chopByRule}
 use Rattle.conic.specs.Level.{ceiling}
 use Rattle.conic_cut.specs.Cut.{written}
-use Rattle.date_table.specs.declared.Check.{Check}
-use Rattle.date_table.specs.declared.Check.the-variants as C
+use Rattle.date_table.specs.declared.lookup.Check.{Check}
+use Rattle.date_table.specs.declared.lookup.Check.the-variants as C
 use Rattle.date_table.specs.declared.Made.{Made}
 use Rattle.date_table.specs.declared.Made.the-variants.{Entries, Refused}
 use Rattle.date_table.specs.declared.Refusal.{Refusal}

@@ -6,20 +6,20 @@ use mathlib.Core.Bool.{Bool, true, cond, not, _&&_, _||_}
 use mathlib.Core.List.{List, [], _∷_}
 use lib.Dec.{eqb, ltb, leb}
 use lib.ListN.{length}
-use Rattle.date_table.specs.declared.Check.{Check}
-use Rattle.date_table.specs.declared.Check.the-variants as C
+use Rattle.date_table.specs.declared.lookup.Check.{Check}
+use Rattle.date_table.specs.declared.lookup.Check.the-variants as C
 use Rattle.date_table.specs.declared.Dated.{Dated}
 use Rattle.date_table.specs.declared.Dated.the-variants as D
 use Rattle.date_table.specs.declared.Refusal.{Refusal}
 use Rattle.date_table.specs.declared.Refusal.the-variants.{BufferTooShort, OddLength, EntryOutOfRange, TimeOutside, TableFalls}
 use Rattle.date_table.specs.Answers.{numberOfRefusal, valuesOfRefusal, numberOfDated, valuesOfDated}
-use Rattle.date_table.specs.Whole.{top}
+use Rattle.date_table.specs.Whole.{maxEntry}
 
 -- ---- the test
 -- no entry holds a number above the largest
 unfoldable pub within : List ℕ → Bool
 within [] = true
-within (n ∷ l) = leb n top && within l
+within (n ∷ l) = leb n maxEntry && within l
 
 -- no x and no y is below that of the entry before
 unfoldable pub rising : List ℕ → Bool
@@ -74,9 +74,9 @@ lastFrom r [] = []
 lastFrom r (x ∷ []) = []
 lastFrom r (x ∷ y ∷ l) = orElse (lastFrom r l) (cond (leb x r) (x ∷ y ∷ l) [])
 
--- between an entry and the next; a quotient is rounded down
-abbrev pub between : ℕ → ℕ → ℕ → ℕ → ℕ → ℕ
-between r x y x′ y′ = y + (r - x) * (y′ - y) / (x′ - x)
+-- part of the way from an entry to the next, where neither difference would be below 0 nor the divisor 0; a quotient is rounded down
+abbrev pub partWay : ℕ → ℕ → ℕ → ℕ → ℕ → ℕ
+partWay r x y x′ y′ = y + (r - x) * (y′ - y) / (x′ - x)
 
 -- from the first entry of a table to the next
 unfoldable pub spanAt : List ℕ → ℕ → ℕ
@@ -84,7 +84,7 @@ spanAt [] r = 0
 spanAt (x ∷ []) r = 0
 spanAt (x ∷ y ∷ []) r = 0
 spanAt (x ∷ y ∷ x′ ∷ []) r = 0
-spanAt (x ∷ y ∷ x′ ∷ y′ ∷ l) r = between r x y x′ y′
+spanAt (x ∷ y ∷ x′ ∷ y′ ∷ l) r = partWay r x y x′ y′
 
 -- at the last x the last y, and before it between the last entry with x not above r and the next
 unfoldable pub dateIn : List ℕ → ℕ → ℕ

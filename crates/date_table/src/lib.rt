@@ -1,6 +1,7 @@
 // Dates of recorded times in whole milliseconds. A date table holds x, the recorded time, then y, the date, of each entry; it
-// is made from a conic, and a time is dated by the entries beside it. A later time never gets an earlier date:
-// specs/Laws.antt, and specs/Forward.antt for which conics a table is made of. Written from docs/RULES.md, "Dates".
+// is made from a conic, and a time is dated by the entries beside it. Of two times that one table dates, the later never gets
+// the earlier date: specs/Laws.antt, and specs/Forward.antt for which conics a table is made of. Written from docs/RULES.md,
+// "Dates".
 ghost use mathlib.Core.Path.{_≡_};
 ghost use mathlib.Core.Bool.{false};
 ghost use Prim.Native.Nat.{_+_, _^_, _≤_};
@@ -12,10 +13,11 @@ ghost use Rattle.date_table.specs.Answers.{numberOfRefusal, numberOfMade
 ghost use Rattle.date_table.specs.All.{AllInto};
 ghost use Rattle.date_table.specs.Forward.{NeverRefused};
 ghost use Rattle.date_table.specs.Making.{MadeInto};
-ghost use Rattle.date_table.specs.Table.{checkOf, DatedAt};
+ghost use Rattle.date_table.specs.Table.{DatedAt};
 use conic::Conic;
 use conic::FromPoints;
 use conic::Rule;
+use lookup::Check;
 
 mod lookup;
 mod making;
@@ -71,12 +73,6 @@ impl Made {
     }
 }
 
-// What the test of a table finds.
-pub enum Check {
-    Passed,
-    Refused(Refusal),
-}
-
 // The date of a recorded time.
 pub enum Dated {
     Date(u32),
@@ -109,7 +105,7 @@ impl AllDated {
     {
         match self {
             AllDated::Dates => 0,
-            AllDated::OutsideAt(_) => 11,
+            AllDated::OutsideAt(_) => Refusal::TimeOutside.number(),
             AllDated::Refused(why) => why.number(),
         }
     }
@@ -146,18 +142,11 @@ pub fn make_from(table: &mut [u32], src: &[f32], weight: f32, level: u32) -> Mad
     }
 }
 
-// Tests a table that is lent, in one pass.
-pub fn test(table: &[u32]) -> Check
-    ensures { λ r. ⌜ r ≡ checkOf (now (table .entry)) ⌝ }
-{
-    lookup::test(table)
-}
-
 // The date of the recorded time r.
 pub fn date_at(table: &[u32], r: u32) -> Dated
     ensures { λ d. ⌜ DatedAt (now (table .entry)) r d ⌝ }
 {
-    match test(table) {
+    match lookup::test(table) {
         Check::Passed => lookup::date(table, r),
         Check::Refused(why) => Dated::Refused(why),
     }
@@ -167,7 +156,7 @@ pub fn date_at(table: &[u32], r: u32) -> Dated
 pub fn date_all(table: &[u32], times: &mut [u32]) -> AllDated
     ensures { λ r. ⌜ AllInto (now (table .entry)) (now (times .entry)) r (now (times .exit)) ⌝ }
 {
-    match test(table) {
+    match lookup::test(table) {
         Check::Passed => lookup::all(table, times),
         Check::Refused(why) => AllDated::Refused(why),
     }

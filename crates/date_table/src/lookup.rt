@@ -3,15 +3,20 @@ ghost use mathlib.Core.Path.{_≡_};
 ghost use mathlib.Core.List.{map};
 ghost use Prim.Native.Nat.{_≤_, _<_};
 ghost use lib.ListN.{length};
-ghost use Rattle.date_table.specs.declared.Check.the-variants.{Passed};
+ghost use Rattle.date_table.specs.declared.lookup.Check.the-variants.{Passed};
 ghost use Rattle.date_table.specs.All.{firstOutside, allAnswer, allTimes};
 ghost use Rattle.date_table.specs.Search.{Bracket, LastNotAbove};
-ghost use Rattle.date_table.specs.Table.{checkOf, between, outside, dateIn, dateOf, firstX, lastX};
+ghost use Rattle.date_table.specs.Table.{checkOf, partWay, outside, dateIn, dateOf, firstX, lastX};
 use super::AllDated;
-use super::Check;
 use super::Dated;
 use super::Refusal;
 use super::whole;
+
+// What the test of a table finds.
+pub enum Check {
+    Passed,
+    Refused(Refusal),
+}
 
 // Tests a table, in one pass.
 pub fn test(table: &[u32]) -> Check
@@ -31,7 +36,7 @@ pub fn test(table: &[u32]) -> Check
     while i < n {
         let next_x = table[i];
         let next_y = table[i + 1];
-        if (next_x > whole::TOP) | (next_y > whole::TOP) {
+        if (next_x > whole::MAX_ENTRY) | (next_y > whole::MAX_ENTRY) {
             return Check::Refused(Refusal::EntryOutOfRange);
         }
         rises = rises & ((x <= next_x) & (y <= next_y));
@@ -66,7 +71,7 @@ fn last_not_above(table: &[u32], r: u32) -> usize
 // The date of r between an entry and the next.
 fn part_way(r: u32, x: u32, y: u32, next_x: u32, next_y: u32) -> u32
     requires { ⌜ x ≤ r ⌝ ∗ ⌜ r < «next_x» ⌝ ∗ ⌜ y ≤ «next_y» ⌝ }
-    ensures { λ d. ⌜ d ≡ between r x y «next_x» «next_y» ⌝ }
+    ensures { λ d. ⌜ d ≡ partWay r x y «next_x» «next_y» ⌝ }
 {
     let part = ((r - x) as u64) * ((next_y - y) as u64) / ((next_x - x) as u64);
     y + (part as u32)

@@ -4,7 +4,7 @@ ghost use lib.Dec.{T};
 ghost use Rattle.date_table.specs.Whole.{inRange, wholeOf, LargestNotAbove};
 
 // The largest number of a table.
-pub const TOP: u32 = 16777216;
+pub const MAX_ENTRY: u32 = 16777216;
 
 // The largest whole number not above x, for x from 0 to 16,777,216; -0 is not below 0. Else 16,777,217, which no table may
 // hold, so that the test of a table refuses it.
@@ -15,5 +15,5 @@ pub fn round_down(x: f32) -> u32
     if (x >= 0.0) & (x <= 16777216.0) {
         return std::num::truncating_f32_to_u64(x) as u32;
     }
-    TOP + 1
+    MAX_ENTRY + 1
 }

@@ -146,7 +146,7 @@ fn bad(line: u64, place: u32, last: u32, why: Fault) {
 }
 
 // Writes what the line of this number comes to; the bridge that stands before the next. A bad stroke, or a line that is
-// neither, leaves the one before it.
+// neither and too short for a bridge, leaves the one before it.
 pub fn show(table: &mut [u32; ROOM], line: u64, t: &[u8], bridge: AtHand) -> AtHand {
     match bridge_lines::read_pad(t) {
         PadLine::Blank => bridge,
@@ -162,6 +162,10 @@ pub fn show(table: &mut [u32; ROOM], line: u64, t: &[u8], bridge: AtHand) -> AtH
         PadLine::BadStroke(place, why) => {
             bad(line, place, 1, why);
             bridge
+        }
+        PadLine::MaybeBridge => {
+            told(line, b"the first word is neither bridge nor stroke\n");
+            AtHand::Bad
         }
         PadLine::OtherWord => {
             told(line, b"the first word is neither bridge nor stroke\n");

@@ -44,14 +44,16 @@ fn date(name: &[u8], entries: &[u32], r: u32) {
 
 fn dates(name: &[u8], entries: &[u32], times: &mut [u32]) {
     print::text(name);
-    match date_table::date_all(entries, times) {
+    let answer = date_table::date_all(entries, times);
+    let number = answer.number();
+    match answer {
         AllDated::Dates => counts(times),
         AllDated::OutsideAt(i) => {
-            print::refusal(11);
+            print::refusal(number);
             print::text(b" at");
             print::count(i as u64);
         }
-        AllDated::Refused(why) => print::refusal(why.number()),
+        AllDated::Refused(_) => print::refusal(number),
     }
     print::end();
 }

@@ -1,11 +1,11 @@
 -- `pad::line` meets its contract: the first word decides, and the words behind it go to the reader of its kind. Assumes nothing.
 use borrow.Author.Needs.{needs}
-use mathlib.Core.Path.{_≡_, sym, _∙_}
+use mathlib.Core.Path.{_≡_, sym, ap, _∙_}
 use mathlib.Core.Bool.{Bool, true, false}
 use mathlib.Core.List.{List, [], _∷_}
 use Prim.Native.Nat.{ℕ}
 use lib.ListN.{getD, drop}
-use Rattle.bridge_lines.specs.Pad.{same, bridgeWord, strokeWord, padLineOf}
+use Rattle.bridge_lines.specs.Pad.{same, bridgeWord, strokeWord, otherOf, padLineOf}
 use Rattle.bridge_lines.specs.Words.{wordsOf}
 use Rattle.bridge_lines.proofs.Judging.{ends, goes}
 use Rattle.bridge_lines.proofs.pad.line.Statement.{statement}
@@ -75,12 +75,16 @@ returns-3 c =
     )
     (c .stroke .ensures)
 
+other-requires : tie.Need-other-requires
+other-requires c κs = tt
+
 returns-4 : tie.Need-returns-4
 unfolding padLineOf
 returns-4 c =
-    let d : tie.After-is-word2 = c .before in
+    let d : tie.After-is-word2 = c .before .before in
     let b : tie.After-is-word = d .before .before .before in
-    rw (more (b .before .before), is-bridge b false (d .before .before .if2 .left), is-stroke d false (c .if3 .left))
+    let m = more (b .before .before) in
+    rw (m, is-bridge b false (d .before .before .if2 .left), is-stroke d false (c .before .if3 .left)) (c .other .ensures ∙ ap otherOf m)
 
 pub line-spec : {M : Type 1} → statement M
 line-spec =
@@ -98,4 +102,5 @@ line-spec =
     past-word-requires-2
     stroke-requires
     returns-3
+    other-requires
     returns-4)

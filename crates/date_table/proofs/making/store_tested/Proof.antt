@@ -5,7 +5,7 @@ use Prim.Native.Nat.{ℕ, _-_, _≤_}
 use lib.ListN.{take}
 use lib.Seq.{sets}
 use Rattle.point.specs.Numbers.{pointsOf}
-use Rattle.date_table.specs.declared.Check.{Check}
+use Rattle.date_table.specs.declared.lookup.Check.{Check}
 use Rattle.date_table.specs.Making.{roundedOf, storedBy}
 use Rattle.date_table.specs.Table.{checkOf}
 use Rattle.date_table.proofs.Answers.{in-front}
