@@ -11,18 +11,23 @@ const STROKES: usize = 1000;
 mod plain {
     use super::*;
 
+    // In one pass: a number out of range refuses at once, and a fall is remembered up to the end.
     pub fn test(table: &[u32]) -> Result<(), u32> {
+        let (entries, half) = table.as_chunks::<2>();
         if table.is_empty() {
-            Err(NZ_BUFFER_TOO_SHORT)
-        } else if table.len() % 2 == 1 {
-            Err(NZ_ODD_LENGTH)
-        } else if table.iter().any(|v| *v > NZ_MAX_ENTRY) {
-            Err(NZ_ENTRY_OUT_OF_RANGE)
-        } else if table.windows(3).any(|w| w[0] > w[2]) {
-            Err(NZ_TABLE_FALLS)
-        } else {
-            Ok(())
+            return Err(NZ_BUFFER_TOO_SHORT);
+        } else if !half.is_empty() {
+            return Err(NZ_ODD_LENGTH);
         }
+        let (mut before, mut falls) = ([0; 2], false);
+        for &[x, y] in entries {
+            if x > NZ_MAX_ENTRY || y > NZ_MAX_ENTRY {
+                return Err(NZ_ENTRY_OUT_OF_RANGE);
+            }
+            falls |= x < before[0] || y < before[1];
+            before = [x, y];
+        }
+        if falls { Err(NZ_TABLE_FALLS) } else { Ok(()) }
     }
 
     // By a table that passed the test.

@@ -55,6 +55,10 @@ fn coordinate(i: &mut Inputs, kind: u64, base: f32) -> f32 {
     }
 }
 
+pub fn in_range(x: f32) -> bool {
+    x >= 0.0 && x <= LARGEST as f32
+}
+
 // One axis: mostly rising; flat, or with the middle at an end; falling; or as it comes.
 fn along(i: &mut Inputs, mut p: [f32; 3]) -> [f32; 3] {
     let kind = i.below(10);
@@ -76,8 +80,12 @@ impl Bridge {
 
     // All six within the range, rising along both axes, and room enough.
     pub fn is_forward(&self) -> bool {
-        let at = |k: usize| self.src[k];
-        self.is_cut() && (0..6).all(|k| at(k) >= 0.0 && at(k) <= LARGEST as f32) && (0..4).all(|k| at(k) <= at(k + 2))
+        self.is_in_range() && (0..4).all(|k| self.src[k] <= self.src[k + 2])
+    }
+
+    // All six within the range, and room enough.
+    pub fn is_in_range(&self) -> bool {
+        self.is_cut() && self.src[..6].iter().all(|x| in_range(*x))
     }
 
     pub fn is_cut(&self) -> bool {
@@ -86,6 +94,11 @@ impl Bridge {
 
     pub fn lent(&self) -> &[f32] {
         &self.src[..self.len[0]]
+    }
+
+    // For a call, which is only to read it. It is reached as what may be written, so that a change is seen.
+    pub fn lend(&mut self) -> *const f32 {
+        self.src.as_mut_ptr()
     }
 
     pub fn make(&mut self, i: &mut Inputs) {
@@ -134,6 +147,11 @@ impl Table {
         &self.words[..self.len]
     }
 
+    // For a call, as a bridge's source is lent.
+    pub fn lend(&mut self) -> *const u32 {
+        self.words.as_mut_ptr()
+    }
+
     // Made by the call, from the first bridge that it takes; by hand where it takes none of many.
     fn by_the_call(&mut self, i: &mut Inputs) {
         let mut bridge = Bridge::new();
@@ -141,7 +159,7 @@ impl Table {
             bridge.make(i);
             self.words = STOOD;
             let table = self.words.as_mut_ptr();
-            let answer = unsafe { nz_date_table(bridge.src.as_ptr(), bridge.len[0] as u64, bridge.weight, bridge.level, table, bridge.len[1] as u64) };
+            let answer = unsafe { nz_date_table(bridge.lend(), bridge.len[0] as u64, bridge.weight, bridge.level, table, bridge.len[1] as u64) };
             if answer == 0 {
                 self.len = room(bridge.level);
                 return;
@@ -151,17 +169,24 @@ impl Table {
         self.by_hand(i);
     }
 
-    // By hand: from one entry to 65 of rising numbers, many of them equal where they are small; some tables with several
-    // entries at the first x or at the last.
+    // By hand: from one entry to 65 of rising numbers, many of them equal where they are small. Some begin at 0 or end at
+    // 16,777,216, in x, in y or in both; some have several entries of the first number or of the last.
     fn by_hand(&mut self, i: &mut Inputs) {
         let (most, span) = ([1, 3, 8, 65][i.below(4) as usize], [4, 12, 1000, LARGEST as u64][i.below(4) as usize]);
         let entries = 1 + i.below(most) as usize;
-        let from = i.below(LARGEST as u64 + 1 - span) as u32;
+        let highest = LARGEST as u64 - span;
+        let from = [0, highest, i.below(highest + 1), i.below(highest + 1)][i.below(4) as usize] as u32;
         self.words = STOOD;
         self.len = 2 * entries;
         for axis in 0..2 {
             let mut column: Vec<u32> = (0..entries).map(|_| from + i.below(span + 1) as u32).collect();
             column.sort();
+            if i.chance(4) {
+                column[0] = 0;
+            }
+            if i.chance(4) {
+                column[entries - 1] = LARGEST;
+            }
             let (tied, first, last) = (i.below(entries as u64) as usize, column[0], column[entries - 1]);
             match i.below(6) {
                 0 => column[..tied].fill(first),
@@ -181,13 +206,15 @@ impl Table {
         };
     }
 
-    // Along an axis one entry is put below the one before, by 1 or by more, if there is room below.
-    fn fall(&mut self, i: &mut Inputs, axis: usize) {
+    // Along an axis one entry is put below the one before, by 1 or by more; whether there is one with room below.
+    fn fall(&mut self, i: &mut Inputs, axis: usize) -> bool {
         let places: Vec<usize> = (0..self.len - 2).step_by(2).filter(|k| self.words[k + axis] > 0).collect();
-        if !places.is_empty() {
-            let k = places[i.below(places.len() as u64) as usize] + axis;
-            self.words[k + 2] = if i.chance(2) { self.words[k] - 1 } else { i.below(self.words[k] as u64) as u32 };
+        if places.is_empty() {
+            return false;
         }
+        let k = places[i.below(places.len() as u64) as usize] + axis;
+        self.words[k + 2] = if i.chance(2) { self.words[k] - 1 } else { i.below(self.words[k] as u64) as u32 };
+        true
     }
 
     pub fn draw(i: &mut Inputs) -> Table {
@@ -196,13 +223,13 @@ impl Table {
         if i.chance(2) {
             table.damage = 1 + i.below(DAMAGES.len() as u64 - 1) as usize;
         }
+        // where nothing can fall, it is not counted as falling
         match table.damage {
             1 => table.raise(i),
-            2 => table.fall(i, 0),
-            3 => table.fall(i, 1),
+            2 | 3 => table.damage = if table.fall(i, table.damage - 2) { table.damage } else { 0 },
             4 => {
                 let axis = i.below(2) as usize;
-                table.fall(i, axis);
+                table.damage = if table.fall(i, axis) { 4 } else { 1 };
                 table.raise(i);
             }
             5 => table.len = table.len + 1 - 2 * i.below(2) as usize,

@@ -1,6 +1,7 @@
 // Date tables and lookups as docs/RULES.md, "Dates", has them, apart from the library: a float is rounded down by its bits, a
 // table is searched entry by entry, and a date is computed in 128 bits. The cut is that of the judge of both axes. So that it
 // is seen that a wrong library would be found, the model can be made wrong in one way.
+use crate::date_calls::{Places, ALL, DATING, MAKING, MANY};
 
 // The highest level, and the largest number of a table.
 pub const HIGHEST: u32 = 6;
@@ -40,29 +41,30 @@ pub enum Wrong {
     PlaceForEveryRefusal,
 }
 
-pub const WRONG: [(Wrong, &str); 22] = [
-    (Wrong::RoundedToNearest, "rounded to the nearest"),
-    (Wrong::EveryPoint, "every point taken, not every second"),
-    (Wrong::ExactRule, "cut by the exact rule"),
-    (Wrong::FallBeforeRange, "12 before 10"),
-    (Wrong::FallOfFloats, "a fall tested before rounding"),
-    (Wrong::TiesFall, "equal neighbours refused as falling"),
-    (Wrong::XMayFall, "falling xs let through"),
-    (Wrong::MinusZeroOutside, "−0 taken as below 0"),
-    (Wrong::LargestOutside, "16,777,216 refused"),
-    (Wrong::SmallNegativesTaken, "what is below 0 and above −1 taken as 0"),
-    (Wrong::ShortBeforeLevel, "2 before 1"),
-    (Wrong::StoredThoughItFalls, "a table that falls stored and then refused"),
-    (Wrong::TailCleared, "the tail of a longer buffer cleared"),
-    (Wrong::FirstOfOneX, "the first entry of an x, not the last"),
-    (Wrong::DividedFirst, "divided before it is multiplied"),
-    (Wrong::DateToNearest, "a date rounded to the nearest"),
-    (Wrong::LastXOutside, "the last x refused"),
-    (Wrong::OneNumberShort, "2 for one number, not 9"),
-    (Wrong::NotTestedForNoTimes, "a table not tested where there are no times"),
-    (Wrong::DatedUpToTheBad, "times dated up to the first bad one"),
-    (Wrong::LastBadPlace, "the last bad place told, not the first"),
-    (Wrong::PlaceForEveryRefusal, "a bad place told for every refusal"),
+// Each with the calls in which it must be found, and in no others.
+pub const WRONG: [(Wrong, Places, &str); 22] = [
+    (Wrong::RoundedToNearest, MAKING, "rounded to the nearest"),
+    (Wrong::EveryPoint, MAKING, "every point taken, not every second"),
+    (Wrong::ExactRule, MAKING, "cut by the exact rule"),
+    (Wrong::FallBeforeRange, ALL, "12 before 10"),
+    (Wrong::FallOfFloats, MAKING, "a fall tested before rounding"),
+    (Wrong::TiesFall, ALL, "equal neighbours refused as falling"),
+    (Wrong::XMayFall, ALL, "falling xs let through"),
+    (Wrong::MinusZeroOutside, MAKING, "−0 taken as below 0"),
+    (Wrong::LargestOutside, ALL, "16,777,216 refused"),
+    (Wrong::SmallNegativesTaken, MAKING, "what is below 0 and above −1 taken as 0"),
+    (Wrong::ShortBeforeLevel, MAKING, "2 before 1"),
+    (Wrong::StoredThoughItFalls, MAKING, "a table that falls stored and then refused"),
+    (Wrong::TailCleared, MAKING, "the tail of a longer buffer cleared"),
+    (Wrong::FirstOfOneX, DATING, "the first entry of an x, not the last"),
+    (Wrong::DividedFirst, DATING, "divided before it is multiplied"),
+    (Wrong::DateToNearest, DATING, "a date rounded to the nearest"),
+    (Wrong::LastXOutside, DATING, "the last x refused"),
+    (Wrong::OneNumberShort, DATING, "2 for one number, not 9"),
+    (Wrong::NotTestedForNoTimes, MANY, "a table not tested where there are no times"),
+    (Wrong::DatedUpToTheBad, MANY, "times dated up to the first bad one"),
+    (Wrong::LastBadPlace, MANY, "the last bad place told, not the first"),
+    (Wrong::PlaceForEveryRefusal, MANY, "a bad place told for every refusal"),
 ];
 
 // Every point of a cut by one judge. The judges are crates of their own, whose points are types of their own.

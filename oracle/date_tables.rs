@@ -1,28 +1,20 @@
-// The call that makes a table beside the model, and its promise, tested on what the library wrote: of the model only the
-// rounding is asked.
+// The call that makes a table beside the model, and its promise.
+use crate::date_calls::Calls;
 use crate::date_classes::{Answers, Class, Classes, FEW};
-use crate::date_inputs::{Bridge, LENT, STOOD};
-use crate::date_model::{room, whole, Model, HIGHEST, LARGEST};
+use crate::date_inputs::{in_range, Bridge, LENT, STOOD};
+use crate::date_model::{room, Model, HIGHEST, LARGEST};
+use crate::date_promise::Promise;
 use crate::inputs::Inputs;
-use crate::{nz_date_all, nz_date_table};
-
-#[derive(Default)]
-struct Promise {
-    tested: u64,
-    // those of whose table times were dated
-    swept: u64,
-    broken: u64,
-    // the same asked of bridges in range that are not forward, which do not have the promise: there it has to be broken
-    others: u64,
-    not_kept: u64,
-}
 
 #[derive(Default)]
 pub struct Tables {
+    pub calls: Calls,
     // how many differences are shown
     pub shown: u64,
     pub inputs: u64,
     pub differences: u64,
+    // those in which the source was changed
+    pub changes: u64,
     answers: Answers,
     levels: [u64; HIGHEST as usize + 1],
     conics: Classes,
@@ -30,50 +22,8 @@ pub struct Tables {
     promise: Promise,
 }
 
-// Times from the first x of a table to the last, in order: all of them where there are few, else some, both ends included.
-fn sweep(i: &mut Inputs, first: u32, last: u32, times: &mut [u32; 256]) -> usize {
-    let (span, n) = (last - first, times.len() as u32);
-    if span < n {
-        (0..=span).for_each(|k| times[k as usize] = first + k);
-        return span as usize + 1;
-    }
-    times.fill_with(|| first + i.below(span as u64 + 1) as u32);
-    (times[0], times[1]) = (first, last);
-    times.sort();
-    times.len()
-}
-
-// The ends rounded down stand first and last, and, if times are swept, all of them are dated and no date is below the one
-// before.
-fn kept(b: &Bridge, answer: u32, table: &[u32], swept: bool, i: &mut Inputs) -> bool {
-    if answer != 0 {
-        return false;
-    }
-    let n = room(b.level);
-    let ends = (0..2).all(|k| whole(b.src[k]) == Some(table[k]) && whole(b.src[4 + k]) == Some(table[n - 2 + k]));
-    let [first_x, first_y, last_x, last_y] = [table[0], table[1], table[n - 2], table[n - 1]];
-    if !ends || last_x < first_x {
-        return false;
-    }
-    if !swept {
-        return true;
-    }
-    let mut times = [0; 256];
-    let count = sweep(i, first_x, last_x, &mut times);
-    let mut bad = 0;
-    let answer = unsafe { nz_date_all(table.as_ptr(), n as u64, times.as_mut_ptr(), count as u64, &mut bad) };
-    let dates = &times[..count];
-    // entries may share the first x, and the last of them dates it
-    let begins = if first_x == last_x { dates[0] == last_y } else { dates[0] >= first_y };
-    answer == 0 && begins && dates[count - 1] == last_y && dates.is_sorted()
-}
-
-fn in_range(x: f32) -> bool {
-    x >= 0.0 && x <= LARGEST as f32
-}
-
 // The classes by the numbers of a conic.
-fn by_conic(b: &Bridge, judged: u32) -> [Class; 18] {
+fn by_conic(b: &Bridge, judged: u32) -> [Class; 16] {
     let (s, w, cut, made) = (&b.src[..6], b.weight, b.is_cut(), judged == 0);
     let some = |f: fn(f32) -> bool| s.iter().any(|x| f(*x));
     let turns = |k: usize| s[k + 2] < s[k].min(s[k + 4]) || s[k + 2] > s[k].max(s[k + 4]);
@@ -88,8 +38,6 @@ fn by_conic(b: &Bridge, judged: u32) -> [Class; 18] {
         ("an infinity in it", cut && some(f32::is_infinite)),
         ("−0 in it and made", made && some(|x| x.to_bits() == 0x8000_0000)),
         ("a fraction in it and made", made && some(|x| x.fract() != 0.0)),
-        ("0 in it and made", made && some(|x| x == 0.0)),
-        ("16,777,216 in it and made", made && some(|x| x == LARGEST as f32)),
         ("an end above 16,777,216", judged == 10 && (s[4] > LARGEST as f32 || s[5] > LARGEST as f32)),
         ("the middle alone out of range and made", made && s[2..4].iter().any(|x| !in_range(*x))),
         ("NaN weight", cut && w.is_nan()),
@@ -100,7 +48,7 @@ fn by_conic(b: &Bridge, judged: u32) -> [Class; 18] {
 }
 
 // The classes by what is taken of its cut, what is lent, and what comes of it.
-fn by_outcome(b: &Bridge, judged: u32, taken: &[f32], table: &[u32]) -> [Class; 12] {
+fn by_outcome(b: &Bridge, judged: u32, taken: &[f32], table: &[u32]) -> [Class; 14] {
     let made = judged == 0;
     let steps = |axis: usize| taken[axis..].iter().step_by(2).zip(taken[axis..].iter().skip(2).step_by(2));
     let [fall_x, fall_y] = [0, 1].map(|axis| steps(axis).any(|(a, b)| a > b));
@@ -115,6 +63,8 @@ fn by_outcome(b: &Bridge, judged: u32, taken: &[f32], table: &[u32]) -> [Class; 
         ("a fall that rounding hides", made && (fall_x || fall_y)),
         ("10 and a fall", judged == 10 && (fall_x || fall_y)),
         ("entries of one x", made && one_x),
+        ("an entry 0 in it", made && table.contains(&0)),
+        ("an entry 16,777,216 in it", made && table.contains(&LARGEST)),
         ("level too high and a short source", judged == 1 && short_source),
         ("level too high with room", judged == 1 && !short_source && b.len[1] >= room(HIGHEST + 1)),
         ("short buffer", short_room && !short_source),
@@ -124,51 +74,42 @@ fn by_outcome(b: &Bridge, judged: u32, taken: &[f32], table: &[u32]) -> [Class; 
 }
 
 impl Tables {
-    pub fn compare(&mut self, model: &Model, b: &Bridge, i: &mut Inputs) {
+    pub fn compare(&mut self, model: &Model, b: &mut Bridge, i: &mut Inputs) {
         let (mut ours, mut theirs) = (STOOD, STOOD);
-        let lent = b.len.map(|n| n as u64);
-        let answer = unsafe { nz_date_table(b.src.as_ptr(), lent[0], b.weight, b.level, ours.as_mut_ptr(), lent[1]) };
-        let judged = model.make(b.lent(), b.weight, b.level, &mut theirs[..b.len[1]]);
+        let (before, lent) = (b.src, b.len.map(|n| n as u64));
+        let answer = unsafe { (self.calls.table)(b.lend(), lent[0], b.weight, b.level, ours.as_mut_ptr(), lent[1]) };
         self.inputs += 1;
+        // bit for bit, since a NaN is no other NaN
+        if b.src.map(f32::to_bits) != before.map(f32::to_bits) {
+            self.changes += 1;
+            self.differ(b, "the lent source was changed into this");
+            b.src = before;
+        }
+        let judged = model.make(b.lent(), b.weight, b.level, &mut theirs[..b.len[1]]);
         if answer != judged || ours != theirs {
-            self.differences += 1;
-            self.show(b, &format!("answer {answer}, not {judged}; table {:?}, not {:?}", &ours[..b.len[1]], &theirs[..b.len[1]]));
+            self.differ(b, &format!("answer {answer}, not {judged}; table {:?}, not {:?}", &ours[..b.len[1]], &theirs[..b.len[1]]));
         }
         self.answers.count(judged);
         if judged == 0 {
             self.levels[b.level as usize] += 1;
         }
         self.sort(model, b, judged, &theirs);
-        self.ask(b, answer, &ours, i);
+        if self.promise.ask(b, answer, &ours, i) {
+            self.show(b, &format!("the promise is broken: answer {answer}, table {:?}", &ours[..b.len[1]]));
+        }
     }
 
-    fn show(&self, b: &Bridge, what: &str) {
-        if self.differences + self.promise.broken <= self.shown {
+    fn differ(&mut self, b: &Bridge, what: &str) {
+        self.differences += 1;
+        self.show(b, what);
+    }
+
+    fn show(&mut self, b: &Bridge, what: &str) {
+        if self.shown > 0 {
+            self.shown -= 1;
             println!("table of {:?}, weight {:?}, level {}, lengths {:?}", b.lent(), b.weight, b.level, b.len);
             println!("    bits {}", b.src.iter().chain([&b.weight]).map(|x| format!("{:08x}", x.to_bits())).collect::<Vec<_>>().join(" "));
             println!("    {what}");
-        }
-    }
-
-    // The promise, of a bridge that has it and of one that lacks the rise alone; in every eighth times are dated.
-    fn ask(&mut self, b: &Bridge, answer: u32, table: &[u32; LENT], i: &mut Inputs) {
-        let forward = b.is_forward();
-        if !forward && !(b.is_cut() && b.src[..6].iter().all(|x| in_range(*x))) {
-            return;
-        }
-        let swept = i.chance(8);
-        let kept = kept(b, answer, &table[..b.len[1]], swept, i);
-        let p = &mut self.promise;
-        if !forward {
-            p.others += 1;
-            p.not_kept += !kept as u64;
-            return;
-        }
-        p.tested += 1;
-        p.swept += swept as u64;
-        p.broken += !kept as u64;
-        if !kept {
-            self.show(b, &format!("the promise is broken: answer {answer}, table {:?}", &table[..b.len[1]]));
         }
     }
 
@@ -182,16 +123,13 @@ impl Tables {
 
     // What must not be: a promise that was broken, or whose test could not fail; a class or a level that was hardly met.
     pub fn failed(&self) -> bool {
-        let p = &self.promise;
-        let untested = self.inputs > FEW && (p.swept == 0 || p.not_kept == 0 || self.levels.iter().any(|n| 100 * n < self.inputs));
-        p.broken > 0 || untested || self.answers.hardly(&[0, 1, 2, 10, 12]) | self.conics.hardly() | self.outcomes.hardly()
+        let rare = self.inputs > FEW && self.levels.iter().any(|n| 100 * n < self.inputs);
+        self.promise.failed(self.inputs) | rare | self.answers.hardly(&[0, 1, 2, 10, 12]) | self.conics.hardly() | self.outcomes.hardly()
     }
 
     pub fn print(&self) {
         println!("tables: {}; made at the levels 0 to {} {:?}", self.answers.text(), HIGHEST, self.levels);
         println!("tables: {}; {}", self.conics.text(), self.outcomes.text());
-        let p = &self.promise;
-        println!("tables: the promise tested {} times, {} of them by dates, and broken {}", p.tested, p.swept, p.broken);
-        println!("tables: the same asked of {} bridges in range that are not forward, and not kept by {}", p.others, p.not_kept);
+        self.promise.print();
     }
 }
