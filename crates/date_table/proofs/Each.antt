@@ -14,7 +14,7 @@ use Rattle.date_table.specs.Laws.{EachAsAlone}
 use Rattle.date_table.specs.All.{firstOutside, allAnswer, allTimes}
 use Rattle.date_table.specs.Table.{within, rising, checkOf, dateIn}
 use Rattle.date_table.proofs.Dates.{absurd-0, chosen, dated}
-use Rattle.date_table.proofs.Many.{inside-of, none-outside, all-dated}
+use Rattle.date_table.proofs.Many.{inside-of, none-outside, map-at, all-dated}
 
 told : (e h w u far : Bool) (i : ℕ) → chosen e h w u Refused (cond far (OutsideAt i) Dates) ≡ Dates → (chosen e h w u C.Refused C.Passed ≡ C.Passed) × (far ≡ false)
 told true h w u far i p = absurd-0 (cc)
@@ -23,11 +23,6 @@ told false true false u far i p = absurd-0 (cc)
 told false true true false far i p = absurd-0 (cc)
 told false true true true true i p = absurd-0 (cc)
 told false true true true false i p = (refl, refl)
-
-map-at : (f : ℕ → ℕ) (ts : List ℕ) (i : ℕ) → i < length ts → getD (map f ts) i 0 ≡ f (getD ts i 0)
-map-at f [] i h = absurd (omega arith)
-map-at f (t ∷ ts) zero h = refl
-map-at f (t ∷ ts) (suc i) h = map-at f ts i (omega arith)
 
 pub as-alone : EachAsAlone
 unfolding allAnswer checkOf

@@ -12,6 +12,7 @@ use lib.IntN.{pos}
 use lib.ListN.{length, take, drop}
 use lib.Seq.{take-at, drop-at}
 use lib.Ieee.{Float, nan, inf, fin, le}
+use lib.Ieee.Bits.{is-true}
 use lib.Ieee.Fits.{and-l, and-r, and-i}
 use lib.Ieee.Scale.{finite}
 use Rattle.float_laws.proofs.Order.{le-trans-float, le-self, or-left}
@@ -39,7 +40,7 @@ use Rattle.date_table.proofs.Answers.{table, table-length, made}
 use Rattle.date_table.proofs.Pass.{is-well}
 use Rattle.date_table.proofs.Taken.{within-all}
 use Rattle.date_table.proofs.Walk.{ends-x, walk-mono}
-use Rattle.date_table.proofs.Rounding.{T-true, order-kept}
+use Rattle.date_table.proofs.Rounding.{order-kept}
 
 -- ---- floats in range
 in-range-finite : (x : Float) → T (inRange x) → T (finite x)
@@ -118,7 +119,7 @@ record Made-of (p : Point) (l : List Point) : Type 0 where
 made-of : {p : Point} {l : List Point} → Run p l → Made-of p l
 unfolding everySecond flat allInRange rising lastX lastY lastOf
 made-of (end p a) = record {
-  within = rw (T-true (inRange (p .x)) (a X), T-true (inRange (p .y)) (a Y));
+  within = rw (is-true (inRange (p .x)) (a X), is-true (inRange (p .y)) (a Y));
   rises = refl;
   last-x = refl;
   last-y = refl;
@@ -131,7 +132,7 @@ made-of (two p q r l a b low run) =
     let px = wholeOf (p .x) in
     let py = wholeOf (p .y) in
     record {
-      within = rw (T-true (inRange (p .x)) (a X), T-true (inRange (p .y)) (a Y)) (m .within);
+      within = rw (is-true (inRange (p .x)) (a X), is-true (inRange (p .y)) (a Y)) (m .within);
       rises = ap (λ (t : List ℕ). rising (px ∷ py ∷ t)) h ∙ rw (xs, ys) (ap rising (sym h) ∙ m .rises);
       last-x = ap (λ (t : List ℕ). lastX (px ∷ py ∷ t)) h ∙ ap lastX (sym h) ∙ m .last-x;
       last-y = ap (λ (t : List ℕ). lastY (px ∷ py ∷ t)) h ∙ ap lastY (sym h) ∙ m .last-y;

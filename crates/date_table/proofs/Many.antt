@@ -1,13 +1,13 @@
 -- Many times by one table: the first that is outside, and the dates stored over them one by one. Assumes nothing.
 use mathlib.Core.Path.{_≡_, refl, sym, ap, _∙_}
 use mathlib.Core.Bool.{Bool, true, false, cond}
-use mathlib.Core.List.{List, [], _∷_, _++_, map, append-nil, map-append}
+use mathlib.Core.List.{List, [], _∷_, map, append-nil}
 use Prim.Native.Nat.{ℕ, zero, suc, _+_, _≤_, _<_}
 use native.Mathlib.Omega.{arith}
 use borrow.Author.Tests.{ltb-false, lt-ltb, le-ltb}
 use lib.Dec.{ltb}
-use lib.ListN.{length, getD, set, take, drop, length-map, drop-of-length-le}
-use lib.Seq.{drop-cons, length-take-le, take-all, take-suc, getD-at, set-at, append-snoc}
+use lib.ListN.{length, getD, set, drop, length-map, drop-of-length-le}
+use lib.Seq.{drop-cons, take-all, paste, paste-suc, drop-paste}
 use Rattle.date_table.specs.declared.AllDated.{AllDated}
 use Rattle.date_table.specs.declared.AllDated.the-variants.{Dates, OutsideAt, Refused}
 use Rattle.date_table.specs.declared.lookup.Check.the-variants as C
@@ -16,6 +16,7 @@ use Rattle.date_table.specs.All.{firstOutside, refuseTimes, allAnswer, a
 use Rattle.date_table.specs.Answers.{numberOfAllDated, valuesOfAllDated}
 use Rattle.date_table.specs.Table.{refuseTable, checkOf, firstX, lastX, outside, dateIn}
 use Rattle.date_table.proofs.Dates.{neither, passed-well, refused-too, of-table, of-cond}
+use Rattle.date_table.proofs.Pass.{at-front}
 use Rattle.date_table.proofs.Walk.{by-cases}
 
 -- ---- a time that is not outside
@@ -54,33 +55,37 @@ none-outside l (t ∷ ts) (suc i) h lt =
     (λ o. let e : firstOutside l (t ∷ ts) ≡ 0 = rw o in absurd (omega arith))
     (λ o. let e : firstOutside l (t ∷ ts) ≡ suc (firstOutside l ts) = rw o in none-outside l ts i (omega arith) (omega arith))
 
--- ---- the dates stored over the times: f is done below i
-abbrev pub upto : (ℕ → ℕ) → ℕ → List ℕ → List ℕ
-upto f i ts = map f (take i ts) ++ drop i ts
+-- ---- the dates stored over the times, those before i: the kit's `paste`
+pub map-at : (f : ℕ → ℕ) (ts : List ℕ) (i : ℕ) → i < length ts → getD (map f ts) i 0 ≡ f (getD ts i 0)
+map-at f [] i h = absurd (omega arith)
+map-at f (t ∷ ts) zero h = refl
+map-at f (t ∷ ts) (suc i) h = map-at f ts i (omega arith)
 
-module _ (f : ℕ → ℕ) (i : ℕ) (ts : List ℕ) (h : i < length ts) where
-  front-length : length (map f (take i ts)) ≡ i
-  front-length = length-map (take i ts) f ∙ length-take-le i ts (omega arith)
+module _ (f : ℕ → ℕ) (ts : List ℕ) (i : ℕ) where
+  from-start : 0 + i ≡ i
+  from-start = omega arith
 
-  split : upto f i ts ≡ map f (take i ts) ++ (getD ts i 0 ∷ drop (suc i) ts)
-  split = ap (λ (m : List ℕ). map f (take i ts) ++ m) (drop-cons ts i 0 h)
+  module _ (h : i < length ts) where
+    -- the time at i is as it was
+    pub paste-at : getD (paste ts 0 (map f ts) i) i 0 ≡ getD ts i 0
+    paste-at =
+        let left = drop-paste ts 0 (map f ts) i (omega arith) (omega (arith, length-map ts f)) in
+        let whole = ap (λ (k : ℕ). drop k (paste ts 0 (map f ts) i)) (sym from-start) ∙ left ∙ ap (λ (k : ℕ). drop k ts) from-start in
+        sym (at-front i (paste ts 0 (map f ts) i)) ∙ ap (λ (m : List ℕ). getD m 0 0) whole ∙ at-front i ts
 
-  -- the time at i is as it was
-  pub upto-at : getD (upto f i ts) i 0 ≡ getD ts i 0
-  upto-at = ap (λ (m : List ℕ). getD m i 0) split ∙ getD-at (map f (take i ts)) (getD ts i 0) (drop (suc i) ts) 0 i front-length
+    -- its date is stored
+    pub paste-next : (d : ℕ) → d ≡ f (getD ts i 0) → set (paste ts 0 (map f ts) i) i d ≡ paste ts 0 (map f ts) (i + 1)
+    paste-next d e =
+        let next : suc i ≡ i + 1 = omega arith in
+        let there : 0 + i < length ts = omega arith in
+        ap (λ (k : ℕ). set (paste ts 0 (map f ts) i) k d) (sym from-start)
+        ∙ ap (set (paste ts 0 (map f ts) i) (0 + i)) (e ∙ sym (map-at f ts i h))
+        ∙ paste-suc ts 0 (map f ts) i 0 there (omega (arith, length-map ts f)) ∙ ap (paste ts 0 (map f ts)) next
 
-  -- its date is stored
-  pub upto-next : (d : ℕ) → d ≡ f (getD ts i 0) → set (upto f i ts) i d ≡ upto f (i + 1) ts
-  upto-next d e =
-      let next : suc i ≡ i + 1 = omega arith in
-      ap (λ (m : List ℕ). set m i d) split ∙ set-at (map f (take i ts)) (getD ts i 0) (drop (suc i) ts) d i front-length
-      ∙ ap (λ (v : ℕ). map f (take i ts) ++ (v ∷ drop (suc i) ts)) e
-      ∙ sym (append-snoc (map f (take i ts)) (f (getD ts i 0)) (drop (suc i) ts))
-      ∙ ap (λ (m : List ℕ). m ++ drop (suc i) ts) (sym (ap (map f) (take-suc ts i 0 h) ∙ map-append f (take i ts) (getD ts i 0 ∷ [])))
-      ∙ ap (λ (k : ℕ). upto f k ts) next
-
-pub upto-all : (f : ℕ → ℕ) (i : ℕ) (ts : List ℕ) → length ts ≤ i → upto f i ts ≡ map f ts
-upto-all f i ts h = rw (take-all i ts h, drop-of-length-le ts h) (append-nil (map f ts))
+  pub paste-all : length ts ≤ i → paste ts 0 (map f ts) i ≡ map f ts
+  paste-all h =
+      let long : length (map f ts) ≤ i = omega (arith, length-map ts f) in
+      rw (from-start, take-all i (map f ts) long, drop-of-length-le ts h) (append-nil (map f ts))
 
 -- ---- the answer, its number and its values, and the times at exit
 of-all : {A : Type 0} (of : AllDated → A) (l ts : List ℕ) (r : AllDated) → r ≡ allAnswer l ts

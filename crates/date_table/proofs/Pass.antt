@@ -16,7 +16,7 @@ use Rattle.date_table.proofs.Dates.{neither}
 use Rattle.date_table.proofs.Walk.{by-cases}
 
 -- ---- the entry at the front of what is left
-at-front : (i : ℕ) (l : List ℕ) → getD (drop i l) 0 0 ≡ getD l i 0
+pub at-front : (i : ℕ) (l : List ℕ) → getD (drop i l) 0 0 ≡ getD l i 0
 at-front i l = let z : i + 0 ≡ i = omega arith in getD-drop i l 0 0 ∙ ap (λ (k : ℕ). getD l k 0) z
 
 front-list : (l : List ℕ) → 1 < length l → l ≡ getD l 0 0 ∷ getD l 1 0 ∷ drop 2 l

@@ -8,15 +8,12 @@ use borrow.Author.Tests.{ltb-true, lt-ltb, eqb-true, le-leb, lt-leb}
 use lib.Dec.{T, leb, ltb, eqb}
 use lib.IntN.{pos}
 use lib.Ieee.{Float, nan, inf, fin, up, down, lt, eq, le, toUnsigned}
+use lib.Ieee.Bits.{is-true}
 use lib.Ieee.Positive.{num, den, den-pos, through}
 use Rattle.date_table.specs.Laws.{RoundedDown, RoundingKeepsOrder}
 use Rattle.date_table.specs.Whole.{maxEntry, inRange, wholeOf, LargestNotAbove}
 use Rattle.date_table.proofs.Dates.{absurd-0}
 use Rattle.date_table.proofs.Walk.{by-cases, and-parts}
-
-pub T-true : (b : Bool) → T b → b ≡ true
-T-true true t = refl
-T-true false t = absurd t
 
 pub record Inside (x : Float) : Type 0 where
   pub above : lt (fin true 1 (pos 0)) x ≡ true
@@ -90,7 +87,7 @@ whole-within x =
 -- what it means: the quotient is the largest
 pub rounded-down : RoundedDown
 rounded-down x t =
-    let q = whole-in x (T-true (inRange x) t) in
+    let q = whole-in x (is-true (inRange x) t) in
     let z = den-pos x in
     record { not-above = rw q (div-mul-le-self (num x) (den x)); largest = λ k le′. rw q (le-div-iff-mul-le z .1 le′) }
 
@@ -122,5 +119,5 @@ order-kept x y h i t =
     let n = wholeOf x in
     let p : n * den x ≤ num x * 1 = omega (arith, a .not-above) in
     let q : n * den y ≤ num y * 1 =
-    through n (num x) (num y) 1 (den x) (den y) (den-pos x) p (crossed x y (T-true (inRange x) h) (T-true (inRange y) i) (T-true (le x y) t)) in
+    through n (num x) (num y) 1 (den x) (den y) (den-pos x) p (crossed x y (is-true (inRange x) h) (is-true (inRange y) i) (is-true (le x y) t)) in
     b .largest n (omega arith)

@@ -1,4 +1,4 @@
--- Two answers of `nz_date_at` by one table, in the words of its contract (docs/RULES.md, "Dates"). Definitions only.
+-- What `nz_date_at` answers, and two of its answers by one table (docs/RULES.md, "Dates"). Definitions only.
 use Prim.Native.Nat.{ℕ, _≤_}
 use mathlib.Core.Path.{_≡_}
 use mathlib.Core.List.{List, [], _∷_}

@@ -10,7 +10,7 @@ ghost use Rattle.date_table.specs.All.{refuseTimes, allTimes};
 ghost use Rattle.date_table.specs.Answers.{numberOfRefusal, valuesOfRefusal, numberOfDated, valuesOfDated, numberOfAllDated, valuesOfAllDated};
 ghost use Rattle.date_table.specs.Forward.{NeverRefused};
 ghost use Rattle.date_table.specs.Making.{refuseMade, madeTable};
-ghost use Rattle.date_table.specs.Table.{refuseTime, dateIn};
+ghost use Rattle.nyerdzumak.specs.Dates.{Asked};
 ghost use Rattle.nyerdzumak.specs.Given.{firstOr};
 use date_table::AllDated;
 use date_table::Dated;
@@ -47,9 +47,7 @@ fn give_date(answer: Dated, date: &mut u32) -> u32
 // The date of a recorded time. Among all the times that a table dates, a later one never gets an earlier date.
 #[no_mangle]
 pub extern "C" fn nz_date_at(table: &[u32], recorded: u32, date: &mut u32) -> u32
-    ensures { λ r. ⌜ r ≡ refuseTime (now (table .entry)) recorded numberOfRefusal 0 ⌝ }
-    ensures date { λ _. ⌜ now (date .exit) ≡ firstOr (now (date .entry))
-        (refuseTime (now (table .entry)) recorded valuesOfRefusal (dateIn (now (table .entry)) recorded ∷ [])) ⌝ }
+    ensures { λ r. ⌜ Asked (now (table .entry)) recorded r (now (date .entry)) (now (date .exit)) ⌝ }
 {
     give_date(date_table::date_at(table, recorded), date)
 }

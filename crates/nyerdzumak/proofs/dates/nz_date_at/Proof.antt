@@ -6,7 +6,7 @@ use Rattle.nyerdzumak.proofs.dates.nz_date_at.Tie as tie
 returns : tie.Need-returns
 returns c =
     let dated = c .before .before .date-at .ensures in
-    (c .give-date .ensures .0 ∙ dated .number, rw (← dated .values) (c .give-date .ensures .1))
+    record { number = c .give-date .ensures .0 ∙ dated .number; date = rw (← dated .values) (c .give-date .ensures .1) }
 
 pub nz-date-at-spec : {M : Type 1} → statement M
 nz-date-at-spec = tie.close (tie.spec (λ c κs. tt) (λ c κs. tt) returns)
