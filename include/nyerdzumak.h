@@ -125,11 +125,12 @@ bool nz_between_exact(float a, float b, float c);
 
 /* ---- dates: tables of whole milliseconds, for each entry x, a recorded time, and y, its date ---- */
 
-/* Proved: of two recorded times that one table dates, the later never gets the earlier date, whatever the table. And a bridge whose points have every
- * coordinate from 0 to NZ_MAX_ENTRY and rise from start to middle to end in x and in y, ties allowed, is never refused with
- * NZ_ENTRY_OUT_OF_RANGE or NZ_TABLE_FALLS, whatever the weight; the first and the last entry of its table are its ends
- * rounded down, and every time from the first x to the last is dated. Nothing has to be tested before: what makes no table is
- * refused. */
+/* Proved: of two recorded times that one table dates, the later never gets the earlier date, whatever the table. And a
+ * bridge whose points have every coordinate from 0 to NZ_MAX_ENTRY and rise from start to middle to end in x and in y, ties
+ * allowed, is never refused with NZ_ENTRY_OUT_OF_RANGE or NZ_TABLE_FALLS, whatever the weight; the first and the last entry of
+ * its table are its ends rounded down, and every time from the first x to the last is dated. Nothing has to be tested before:
+ * what makes no table is refused. Between two tables order is the caller's: the second has to start where the first ends, or
+ * later. */
 
 /* Makes the date table of a conic. It is cut as by nz_cut_in_order_both, and every second point from the first on, an end of
  * a quad, is an entry, its x and its y rounded down: 2^level + 1 entries, NZ_TABLE_ROOM(level) numbers from table[0] on. What
