@@ -1,0 +1,6 @@
+mod Counts
+mod Journals
+mod Judged
+pub mod Patterns
+mod Signed
+mod Stores

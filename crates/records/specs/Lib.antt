@@ -1,0 +1,6 @@
+pub mod Answers
+pub mod Cut
+pub mod Numbers
+pub mod Reading
+pub mod Record
+pub mod Writing

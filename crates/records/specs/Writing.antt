@@ -1,0 +1,30 @@
+-- A record written at an offset of a buffer (docs/RULES.md, "The journal"). Definitions only.
+use Prim.Native.Nat.{ℕ, _+_}
+use mathlib.Core.Bool.{cond}
+use mathlib.Core.List.{List}
+use lib.Dec.{leb}
+use lib.ListN.{length}
+use lib.Seq.{sets}
+use Rattle.records.specs.declared.Record.{Record}
+use Rattle.records.specs.declared.Refusal.{Refusal}
+use Rattle.records.specs.declared.Refusal.the-variants.{BufferTooShort}
+use Rattle.records.specs.declared.Written.{Written}
+use Rattle.records.specs.declared.Written.the-variants.{To, Refused}
+use Rattle.records.specs.Record.{bytesOf}
+
+-- 2 where the bytes b do not fit at an offset of l; and else what is well
+abbrev pub refuseStore : {A : Type 0} → List ℕ → ℕ → List ℕ → (Refusal → A) → A → A
+refuseStore l at b refused well = cond (leb (at + length b) (length l)) well (refused BufferTooShort)
+
+unfoldable pub storedAnswer : List ℕ → ℕ → List ℕ → Written
+storedAnswer l at b = refuseStore l at b Refused (To (at + length b))
+
+-- the buffer at exit: the bytes over those that were there, or as it was
+unfoldable pub storedOver : List ℕ → ℕ → List ℕ → List ℕ
+storedOver l at b = refuseStore l at b (λ _. l) (sets l at b)
+
+abbrev pub writeAnswer : List ℕ → ℕ → Record → Written
+writeAnswer l at r = storedAnswer l at (bytesOf r)
+
+abbrev pub writtenOver : List ℕ → ℕ → Record → List ℕ
+writtenOver l at r = storedOver l at (bytesOf r)
