@@ -1,16 +1,16 @@
 -- Signed numbers of 32 bits: one that is read out of its bits is itself, and one below 0 is -1 less a number that is not.
 -- Assumes nothing.
 use mathlib.Core.Path.{_≡_, refl, sym, ap, _∙_}
-use mathlib.Core.Bool.{true, false}
+use mathlib.Core.Bool.{Bool, true, false, cond}
 use Prim.Native.Nat.{ℕ, zero, suc, _+_, _-_, _≤_, _<_}
 use native.Mathlib.Omega.{arith}
-use lib.Dec.{T}
+use lib.Dec.{T, ltb}
 use lib.IntN.{ℤ, pos, negsuc, natAbs, _-ℤ_}
 use lib.Signed.{mag, leZ, nonNeg}
 use mir.Syntax.{w32}
 use mir.Val.{Fits, SFits, toZ, ofZ}
 use mir.ValLaws.{toZ-pos, toZ-ofZ}
-use borrow.Author.Tests.{lt-ltb, le-ltb, leb-false}
+use borrow.Author.Tests.{ltb-true, ltb-false, lt-ltb, le-ltb, leb-false}
 use Rattle.records.specs.Numbers.{patternOf, signedOf}
 
 -- -1 less a number below 0, and less one that is not
@@ -66,3 +66,32 @@ unfolding signedOf
 high-half w h i =
     let z : 4294967295 - w ≡ 4294967296 - suc w = omega arith in
     turned-back (4294967295 - w) (omega arith) ∙ ap negsuc z ∙ sym (simp (le-ltb w 2147483648 h))
+
+-- ---- patterns and signed numbers, back and forth
+pub pattern-below : (z : ℤ) → SFits w32 z → patternOf z < 4294967296
+pattern-below (pos n) f = omega (arith, f .sfits)
+pattern-below (negsuc n) f = omega (arith, f .sfits)
+
+pub signed-pattern : (z : ℤ) → SFits w32 z → signedOf (patternOf z) ≡ z
+unfolding signedOf
+signed-pattern (pos n) f = simp (lt-ltb n 2147483648 (f .sfits))
+signed-pattern (negsuc n) f =
+    let h : n < 2147483648 = f .sfits in
+    let e : 4294967296 - suc (4294967296 - suc n) ≡ n = omega arith in
+    simp (le-ltb (4294967296 - suc n) 2147483648 (omega arith)) (ap negsuc e)
+
+pub signed-fits : (w : ℕ) → w < 4294967296 → SFits w32 (signedOf w)
+unfolding signedOf
+signed-fits w h = go (ltb w 2147483648) refl
+  where
+    go : (b : Bool) → ltb w 2147483648 ≡ b → SFits w32 (cond b (pos w) (negsuc (4294967296 - suc w)))
+    go true e = record { sfits = ltb-true w 2147483648 e }
+    go false e = record { sfits = omega (arith, ltb-false w 2147483648 e) }
+
+pub pattern-signed : (w : ℕ) → w < 4294967296 → patternOf (signedOf w) ≡ w
+unfolding signedOf
+pattern-signed w h = go (ltb w 2147483648) refl
+  where
+    go : (b : Bool) → ltb w 2147483648 ≡ b → patternOf (cond b (pos w) (negsuc (4294967296 - suc w))) ≡ w
+    go true e = refl
+    go false e = omega (arith, ltb-false w 2147483648 e)

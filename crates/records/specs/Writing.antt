@@ -1,7 +1,7 @@
 -- A record written at an offset of a buffer (docs/RULES.md, "The journal"). Definitions only.
 use Prim.Native.Nat.{ℕ, _+_}
 use mathlib.Core.Bool.{cond}
-use mathlib.Core.List.{List}
+use mathlib.Core.List.{List, [], _∷_}
 use lib.Dec.{leb}
 use lib.ListN.{length}
 use lib.Seq.{sets}
@@ -28,3 +28,8 @@ writeAnswer l at r = storedAnswer l at (bytesOf r)
 
 abbrev pub writtenOver : List ℕ → ℕ → Record → List ℕ
 writtenOver l at r = storedOver l at (bytesOf r)
+
+-- records one behind the other, from an offset on
+unfoldable pub writeAll : List ℕ → ℕ → List Record → List ℕ
+writeAll l at [] = l
+writeAll l at (r ∷ rs) = writeAll (writtenOver l at r) (at + length (bytesOf r)) rs
