@@ -32,18 +32,22 @@ enough-and (suc k) f s at h =
     ap (λ (n : ℕ). readUpTo n s at) z ∙ one-more (k + f) s at (omega arith) ∙ enough-and k f s at h
 
 -- any bound that is enough is as good as another
-pub enough : (f : ℕ) (s : List ℕ) (at : ℕ) → length s - at < f → f ≤ suc (length s) → readUpTo f s at ≡ readFrom s at
+pub enough : (f : ℕ) (s : List ℕ) (at : ℕ) → length s - at < f → readUpTo f s at ≡ readFrom s at
 unfolding readFrom
-enough f s at h i =
-    let z : suc (length s) ≡ (suc (length s) - f) + f = omega arith in
-    sym (ap (λ (n : ℕ). readUpTo n s at) z ∙ enough-and (suc (length s) - f) f s at h)
+enough f s at h =
+    let m = suc (length s - at) in
+    let y : f ≡ (f - m) + m = omega arith in
+    let z : suc (length s) ≡ (suc (length s) - m) + m = omega arith in
+    ap (λ (n : ℕ). readUpTo n s at) y
+    ∙ enough-and (f - m) m s at (omega arith)
+    ∙ sym (ap (λ (n : ℕ). readUpTo n s at) z ∙ enough-and (suc (length s) - m) m s at (omega arith))
 
 -- ---- what a whole record is followed by
 pub read-more : (s : List ℕ) (at : ℕ) (r : Record) (next : ℕ) → readOf s at ≡ Whole r next → readFrom s at ≡ more r (readFrom s next)
 unfolding readFrom readUpTo readOn
 read-more s at r next h =
     ap (readOn (λ n. readUpTo (length s) s n) at) h
-    ∙ ap (more r) (enough (length s) s next (omega (arith, forward s at r next h)) (omega arith))
+    ∙ ap (more r) (enough (length s) s next (omega (arith, forward s at r next h)))
 
 -- and where there is none
 pub read-end : (s : List ℕ) (at : ℕ) → readOf s at ≡ End → readFrom s at ≡ none at End
@@ -57,3 +61,8 @@ read-short s at h = ap (readOn (λ n. readUpTo (length s) s n) at) h
 pub read-refused : (s : List ℕ) (at : ℕ) (why : Refusal) (place : ℕ) → readOf s at ≡ Refused why place → readFrom s at ≡ none at (Refused why place)
 unfolding readFrom readUpTo readOn
 read-refused s at why place h = ap (readOn (λ n. readUpTo (length s) s n) at) h
+
+-- at the end or in a record that is cut off
+pub read-stop : (s : List ℕ) (at : ℕ) (b : Bool) → readOf s at ≡ cond b End Short → readFrom s at ≡ none at (cond b End Short)
+read-stop s at true h = read-end s at h
+read-stop s at false h = read-short s at h
