@@ -1,6 +1,6 @@
 -- How many words a kind has, and which kinds have some. Assumes nothing.
 use mathlib.Core.Path.{_≡_, refl, sym}
-use mathlib.Core.Bool.{Bool, true, false}
+use mathlib.Core.Bool.{Bool, true, false, cond}
 use Prim.Native.Nat.{ℕ, _<_}
 use native.Mathlib.Omega.{arith}
 use lib.Dec.{eqb}
@@ -30,3 +30,13 @@ six e = rw e
 pub one : {k : ℕ} → k ≡ 3 → countOf k ≡ 1
 unfolding countOf
 one e = rw e
+
+pub at-most : (k : ℕ) → countOf k < 8
+unfolding countOf
+at-most k = go (eqb k 1) (eqb k 2) (eqb k 3)
+  where
+    go : (a b c : Bool) → cond a 7 (cond b 6 (cond c 1 0)) < 8
+    go true b c = omega arith
+    go false true c = omega arith
+    go false false true = omega arith
+    go false false false = omega arith

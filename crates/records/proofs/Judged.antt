@@ -7,7 +7,7 @@ use Prim.Native.Nat.{ℕ, _+_, _*_, _-_, _≤_, _<_}
 use native.Mathlib.Omega.{arith}
 use lib.Dec.{eqb, ltb, leb}
 use lib.ListN.{length}
-use borrow.Author.Tests.{lt-ltb, le-ltb, le-leb, lt-leb, eq-eqb, ne-eqb, leb-false, ltb-false, eqb-true, eqb-false}
+use borrow.Author.Tests.{lt-ltb, le-ltb, le-leb, lt-leb, eq-eqb, ne-eqb, leb-true, leb-false, ltb-false, eqb-true, eqb-false}
 use Rattle.records.specs.declared.Record.{Record}
 use Rattle.records.specs.declared.Refusal.{Refusal}
 use Rattle.records.specs.declared.Refusal.the-variants.{BadLength, UnknownKind}
@@ -40,12 +40,12 @@ module _ (s : List ℕ) (at : ℕ) where
 
         module _ (more : 6 ≤ length s - at) (kind n : ℕ) (is-kind : kind ≡ half s (at + 4)) (count : n ≡ countOf kind) where
           -- what is left to judge
-          known : readOf s at
+          pub left-to-judge : readOf s at
               ≡ cond (eqb n 0) (Refused UnknownKind at)
               (cond (not (eqb size (2 + 4 * n))) (Refused BadLength at)
               (cond (ltb (length s - at) (4 + size)) Short (Whole (recordOf kind (wordsAt s (at + 6) n)) (at + 4 + size))))
           unfolding readOf lengthOf
-          known =
+          left-to-judge =
               simp (
                 lt-leb (length s) at there,
                 le-ltb (length s - at) 4 four,
@@ -57,20 +57,20 @@ module _ (s : List ℕ) (at : ℕ) where
               )
 
           pub unknown : n ≡ 0 → Refused UnknownKind at ≡ readOf s at
-          unknown h = sym (known ∙ simp (eq-eqb n 0 h))
+          unknown h = sym (left-to-judge ∙ simp (eq-eqb n 0 h))
 
           module _ (some : n ≡ 0 → ⊥) where
             pub other : (size ≡ 2 + 4 * n → ⊥) → Refused BadLength at ≡ readOf s at
-            other h = sym (known ∙ simp (ne-eqb n 0 some, ne-eqb size (2 + 4 * n) h))
+            other h = sym (left-to-judge ∙ simp (ne-eqb n 0 some, ne-eqb size (2 + 4 * n) h))
 
             module _ (right : size ≡ 2 + 4 * n) where
               pub cut-off : length s - at < 4 + size → Short ≡ readOf s at
-              cut-off h = sym (known ∙ simp (ne-eqb n 0 some, eq-eqb size (2 + 4 * n) right, lt-ltb (length s - at) (4 + size) h))
+              cut-off h = sym (left-to-judge ∙ simp (ne-eqb n 0 some, eq-eqb size (2 + 4 * n) right, lt-ltb (length s - at) (4 + size) h))
 
               pub whole : (r : Record) → 4 + size ≤ length s - at → r ≡ recordOf kind (wordsAt s (at + 6) (countOf kind)) → Whole r (at + (4 + size)) ≡ readOf s at
               whole r h e =
                   let z : at + 4 + size ≡ at + (4 + size) = omega arith in
-                  sym (known
+                  sym (left-to-judge
                   ∙ simp (ne-eqb n 0 some, eq-eqb size (2 + 4 * n) right, le-ltb (length s - at) (4 + size) h)
                   (ap (λ (m : ℕ). Whole (recordOf kind (wordsAt s (at + 6) n)) m) z
                   ∙ ap (λ (m : ℕ). Whole (recordOf kind (wordsAt s (at + 6) m)) (at + (4 + size))) count
@@ -129,3 +129,25 @@ pub forward : (s : List ℕ) (at : ℕ) (r : Record) (next : ℕ) → readOf s a
 forward s at r next e =
     let k = stands s at r next e in
     (omega (arith, k .ends), omega (arith, k .ends, k .there, k .inside))
+
+-- ---- back: only the first answer is the end
+end-picked : (v : Record) (at to : ℕ) (b₁ b₂ b₃ b₄ b₅ b₆ b₇ : Bool)
+    → cond b₁ End (cond b₂ Short (cond b₃ (Refused BadLength at) (cond b₄ Short (cond b₅ (Refused UnknownKind at) (cond b₆ (Refused BadLength at) (cond b₇ Short (Whole v to))))))) ≡ End
+    → b₁ ≡ true
+end-picked v at to true b₂ b₃ b₄ b₅ b₆ b₇ e = refl
+end-picked v at to false true b₃ b₄ b₅ b₆ b₇ e = cc
+end-picked v at to false false true b₄ b₅ b₆ b₇ e = cc
+end-picked v at to false false false true b₅ b₆ b₇ e = cc
+end-picked v at to false false false false true b₆ b₇ e = cc
+end-picked v at to false false false false false true b₇ e = cc
+end-picked v at to false false false false false false true e = cc
+end-picked v at to false false false false false false false e = cc
+
+pub none-left : (s : List ℕ) (at : ℕ) → readOf s at ≡ End → length s ≤ at
+unfolding readOf
+none-left s at e =
+    let k = half s (at + 4) in
+    let n = countOf k in
+    leb-true (length s) at
+    (end-picked (recordOf k (wordsAt s (at + 6) n)) at (at + 4 + word s at) (leb (length s) at) (ltb (length s - at) 4) (ltb (word s at) 2)
+    (ltb (length s - at) 6) (eqb n 0) (not (eqb (word s at) (lengthOf n))) (ltb (length s - at) (4 + word s at)) e)

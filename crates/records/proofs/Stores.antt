@@ -1,12 +1,14 @@
 -- Stores of one list after another, and of words. Assumes nothing.
-use mathlib.Core.Path.{_≡_, sym, ap, _∙_}
-use mathlib.Core.List.{List, [], _∷_, _++_}
+use mathlib.Core.Path.{_≡_, refl, sym, ap, _∙_}
+use mathlib.Core.Bool.{Bool, true, false, cond}
+use mathlib.Core.List.{List, [], _∷_, _++_, append-assoc}
 use Prim.Native.Nat.{ℕ, suc, _+_, _*_, _-_, _≤_, _<_}
 use native.Mathlib.Omega.{arith}
 use native.Mathlib.Numerals.{add-one}
-use lib.ListN.{length, getD, drop, set, length-append}
-use lib.Seq.{sets, drop-cons}
-use borrow.Author.Tests.{le-leb, lt-leb}
+use lib.Dec.{leb}
+use lib.ListN.{length, getD, take, drop, set, length-append}
+use lib.Seq.{sets, sets-eq, drop-cons, take-at, length-take-le}
+use borrow.Author.Tests.{leb-true, le-leb, lt-leb}
 use Rattle.records.specs.declared.Refusal.the-variants.{BufferTooShort}
 use Rattle.records.specs.declared.Written.the-variants.{To, Refused}
 use Rattle.records.specs.Numbers.{two, four, fours}
@@ -75,3 +77,33 @@ module _ (l b : List ℕ) (at m : ℕ) (e : length b ≡ m) where
     sym (simp (lt-leb (at + length b) (length l) (omega arith))),
     sym (simp (lt-leb (at + length b) (length l) (omega arith))),
   )
+
+-- ---- what a store that was made left
+module _ (l b : List ℕ) (at next : ℕ) (made : storedAnswer l at b ≡ To next) where
+  fitted : (at + length b ≤ length l) × ((next ≡ at + length b) × (storedOver l at b ≡ sets l at b))
+  unfolding storedAnswer storedOver
+  fitted = go (leb (at + length b) (length l)) refl made
+    where
+      go : (c : Bool) → leb (at + length b) (length l) ≡ c → cond c (To (at + length b)) (Refused BufferTooShort) ≡ To next
+          → (at + length b ≤ length l) × ((next ≡ at + length b) × (cond c (sets l at b) l ≡ sets l at b))
+      go true e m = (leb-true (at + length b) (length l) e, (cc, refl))
+      go false e m = let z : _≡_ {A = ℕ} 0 1 = cc in absurd (omega arith)
+
+  pub to : next ≡ at + length b
+  to = fitted .1 .0
+
+  -- what stood before, the bytes, and what stood behind
+  pub stored-is : storedOver l at b ≡ take at l ++ (b ++ drop next l)
+  stored-is =
+      fitted .1 .1
+      ∙ sets-eq b l at (fitted .0)
+      ∙ append-assoc (take at l) b (drop (at + length b) l)
+      ∙ ap (λ (n : ℕ). take at l ++ (b ++ drop n l)) (sym to)
+
+  pub before : length (take at l) ≡ at
+  before = length-take-le at l (omega (arith, fitted .0))
+
+  pub up-to-it : take next (storedOver l at b) ≡ take at l ++ b
+  up-to-it =
+      let z : length (take at l ++ b) ≡ next = length-append (take at l) b ∙ ap (λ (n : ℕ). n + length b) before ∙ sym to in
+      ap (take next) (stored-is ∙ sym (append-assoc (take at l) b (drop next l))) ∙ take-at (take at l ++ b) (drop next l) next z

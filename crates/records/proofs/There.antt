@@ -148,12 +148,11 @@ there s at next r bytes got =
     let t : Together s (at + 6) k r = subst (Together s (at + 6) k) (d .is) (together s bytes (at + 6) k (d .known)) in
     let size = length-is n in
     let l : lengthOf (length (wordsOf r)) ≡ word s at = ap lengthOf (ap length (t .words) ∙ length-words s (at + 6) n) ∙ sym (d .size) in
-    let z : 6 + 4 * n ≡ next - at = omega (arith, d .ends, d .size) in
-    (
+    let z : 6 + 4 * n ≡ next - at = omega (arith, d .ends, d .size) in (
       ap (λ (x : ℕ). four x ++ (two (kindOf r) ++ fours (wordsOf r))) l
-      ∙ ap (λ (x : ℕ). four (word s at) ++ (two x ++ fours (wordsOf r))) (t .kind)
-      ∙ ap (λ (x : List ℕ). four (word s at) ++ (two k ++ fours x)) (t .words)
-      ∙ all-there s bytes n at (omega (arith, d .there, d .size, d .inside))
-      ∙ ap (λ (x : ℕ). take x (drop at s)) z,
+          ∙ ap (λ (x : ℕ). four (word s at) ++ (two x ++ fours (wordsOf r))) (t .kind)
+          ∙ ap (λ (x : List ℕ). four (word s at) ++ (two k ++ fours x)) (t .words)
+          ∙ all-there s bytes n at (omega (arith, d .there, d .size, d .inside))
+          ∙ ap (λ (x : ℕ). take x (drop at s)) z,
       t .fits,
     )
