@@ -1,3 +1,4 @@
 pub mod Dates
 pub mod Given
+pub mod Journal
 pub mod Lent

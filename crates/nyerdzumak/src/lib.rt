@@ -4,6 +4,7 @@
 pub mod conics;
 pub mod dates;
 pub mod ground;
+pub mod journal;
 pub mod kinds;
 pub mod roots;
 pub mod shapes;

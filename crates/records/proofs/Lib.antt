@@ -2,12 +2,13 @@ pub mod Alone
 mod Counts
 pub mod Cuts
 mod Examples
-mod First
+pub mod First
 mod Journals
 mod Judged
 pub mod Kept
 mod Moved
-pub mod Patterns
+mod Patterns
 mod Signed
 mod Stores
 mod There
+pub mod Together

@@ -1,23 +1,19 @@
 -- What is read stands there: a record that is read is what the bytes between its offset and the next are. Assumes nothing.
 use mathlib.Core.Path.{_≡_, refl, sym, ap, _∙_, subst}
-use mathlib.Core.Bool.{Bool, true, false}
 use mathlib.Core.List.{List, [], _∷_, _++_}
 use Prim.Native.Nat.{ℕ, zero, suc, _+_, _-_, _*_, _/_, _%_, _≤_, _<_}
 use native.Mathlib.Omega.{arith}
 use native.Mathlib.Nat.{div-div-eq-div-mul, mod-eq-of-lt}
-use lib.Dec.{eqb}
 use lib.ListN.{length, getD, take, drop}
 use lib.Seq.{drop-cons, take-add, drop-drop}
-use borrow.Author.Tests.{eqb-true, eqb-false}
 use Rattle.records.specs.declared.Record.{Record}
 use Rattle.records.specs.declared.Found.the-variants.{Whole}
-use Rattle.records.specs.Numbers.{two, four, fours, half, word, wordsAt, patternOf, signedOf, Bytes, AllBelow}
+use Rattle.records.specs.Numbers.{two, four, fours, half, word, wordsAt, Bytes, AllBelow}
 use Rattle.records.specs.Reading.{readOf}
-use Rattle.records.specs.Record.{kindOf, wordsOf, countOf, recordOf, lengthOf, bytesFor, bytesOf, Fits}
-use Rattle.records.proofs.Counts.{none}
+use Rattle.records.specs.Record.{kindOf, wordsOf, countOf, lengthOf, wordsFrom, bytesFor, bytesOf, Fits}
 use Rattle.records.proofs.Judged.{Stands, stands}
 use Rattle.records.proofs.Patterns.{length-is}
-use Rattle.records.proofs.Signed.{pattern-signed, signed-fits}
+use Rattle.records.proofs.Together.{Together, together, from-all}
 
 -- ---- bytes to a number and back
 low : (b q : ℕ) → b < 256 → (b + 256 * q) % 256 ≡ b
@@ -105,39 +101,6 @@ unfolding wordsAt
 length-words s at zero = refl
 length-words s at (suc n) = ap suc (length-words s (at + 4) n)
 
--- ---- the kind and the words of a record that is put together of those at an offset
-pub record Together (s : List ℕ) (at k : ℕ) (r : Record) : Type 0 where
-  pub kind : kindOf r ≡ k
-  pub words : wordsOf r ≡ wordsAt s at (countOf k)
-  pub fits : Fits r
-
-module _ (s : List ℕ) (bytes : Bytes s) (at : ℕ) where
-  first : Together s at 1 (recordOf 1 (wordsAt s at (countOf 1)))
-  unfolding wordsOf recordOf wordsAt countOf Fits AllBelow
-  first = record { kind = refl; words = refl; fits = words-below s bytes 7 at }
-
-  second : Together s at 2 (recordOf 2 (wordsAt s at (countOf 2)))
-  unfolding wordsOf recordOf wordsAt countOf Fits AllBelow
-  second = record { kind = refl; words = refl; fits = words-below s bytes 6 at }
-
-  third : Together s at 3 (recordOf 3 (wordsAt s at (countOf 3)))
-  unfolding wordsOf recordOf wordsAt countOf Fits AllBelow
-  third =
-      let h = words-below s bytes 1 at .0 in
-      record { kind = refl; words = ap (λ (x : ℕ). x ∷ []) (pattern-signed (word s at) h); fits = signed-fits (word s at) h }
-
-  together : (k : ℕ) → (countOf k ≡ 0 → ⊥) → Together s at k (recordOf k (wordsAt s at (countOf k)))
-  together k some = go (eqb k 1) (eqb k 2) (eqb k 3) refl refl refl
-    where
-      Is : ℕ → Type 0
-      Is x = Together s at x (recordOf x (wordsAt s at (countOf x)))
-
-      go : (a b c : Bool) → eqb k 1 ≡ a → eqb k 2 ≡ b → eqb k 3 ≡ c → Is k
-      go true b c e₁ e₂ e₃ = subst Is (sym (eqb-true k 1 e₁)) first
-      go false true c e₁ e₂ e₃ = subst Is (sym (eqb-true k 2 e₂)) second
-      go false false true e₁ e₂ e₃ = subst Is (sym (eqb-true k 3 e₃)) third
-      go false false false e₁ e₂ e₃ = absurd (some (sym (none k (eqb-false k 1 e₁) (eqb-false k 2 e₂) (eqb-false k 3 e₃))))
-
 -- ---- a record that is read
 pub there : (s : List ℕ) (at next : ℕ) (r : Record) → Bytes s → readOf s at ≡ Whole r next → (bytesOf r ≡ take (next - at) (drop at s)) × Fits r
 unfolding bytesOf bytesFor
@@ -145,14 +108,17 @@ there s at next r bytes got =
     let d : Stands s at r next = stands s at r next got in
     let k = half s (at + 4) in
     let n = countOf k in
-    let t : Together s (at + 6) k r = subst (Together s (at + 6) k) (d .is) (together s bytes (at + 6) k (d .known)) in
+    let ws = wordsAt s (at + 6) n in
+    let all : wordsFrom ws 0 n ≡ ws = ap (wordsFrom ws 0) (sym (length-words s (at + 6) n)) ∙ from-all ws in
+    let t : Together k ws = together k ws (d .known) (subst AllBelow (sym all) (words-below s bytes n (at + 6))) in
+    let words : wordsOf r ≡ ws = ap wordsOf (sym (d .is)) ∙ t .words ∙ all in
     let size = length-is n in
-    let l : lengthOf (length (wordsOf r)) ≡ word s at = ap lengthOf (ap length (t .words) ∙ length-words s (at + 6) n) ∙ sym (d .size) in
+    let l : lengthOf (length (wordsOf r)) ≡ word s at = ap lengthOf (ap length words ∙ length-words s (at + 6) n) ∙ sym (d .size) in
     let z : 6 + 4 * n ≡ next - at = omega (arith, d .ends, d .size) in (
       ap (λ (x : ℕ). four x ++ (two (kindOf r) ++ fours (wordsOf r))) l
-          ∙ ap (λ (x : ℕ). four (word s at) ++ (two x ++ fours (wordsOf r))) (t .kind)
-          ∙ ap (λ (x : List ℕ). four (word s at) ++ (two k ++ fours x)) (t .words)
+          ∙ ap (λ (x : ℕ). four (word s at) ++ (two x ++ fours (wordsOf r))) (ap kindOf (sym (d .is)) ∙ t .kind)
+          ∙ ap (λ (x : List ℕ). four (word s at) ++ (two k ++ fours x)) words
           ∙ all-there s bytes n at (omega (arith, d .there, d .size, d .inside))
           ∙ ap (λ (x : ℕ). take x (drop at s)) z,
-      t .fits,
+      subst Fits (d .is) (t .fits),
     )

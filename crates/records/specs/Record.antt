@@ -1,5 +1,6 @@
 -- Records, and each as bytes (docs/RULES.md, "The journal"). Definitions only.
-use Prim.Native.Nat.{ℕ, _+_, _*_}
+use Prim.Native.Nat.{ℕ, zero, suc, _+_, _*_}
+use mathlib.Core.Path.{_≡_}
 use mathlib.Core.Bool.{cond}
 use mathlib.Core.List.{List, [], _∷_, _++_}
 use lib.Dec.{eqb}
@@ -73,5 +74,14 @@ AllFit (r ∷ rs) = Fits r × AllFit rs
 unfoldable pub wordsOver : Record → List ℕ → List ℕ
 wordsOver r ws = sets ws 0 (wordsOf r)
 
+-- the first n of them, from a place on
+unfoldable pub wordsFrom : List ℕ → ℕ → ℕ → List ℕ
+wordsFrom ws i zero = []
+wordsFrom ws i (suc n) = getD ws i 0 ∷ wordsFrom ws (i + 1) n
+
 unfoldable pub fromWords : ℕ → List ℕ → FromWords
 fromWords k ws = cond (eqb (countOf k) 0) (Refused UnknownKind) (Made (recordOf k ws))
+
+-- a record that was made is of that kind, and its words are those that were given, bit for bit
+abbrev pub Keeps : ℕ → List ℕ → FromWords → Type 0
+Keeps k ws r = (v : Record) → r ≡ Made v → (kindOf v ≡ k) × (wordsOf v ≡ wordsFrom ws 0 (countOf k))

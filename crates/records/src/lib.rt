@@ -4,7 +4,7 @@
 ghost use mathlib.Core.Path.{_≡_};
 ghost use Rattle.records.specs.Answers.{numberOfRefusal, numberOfFound, numberOfWritten, numberOfEnded, numberOfFromWords};
 ghost use Rattle.records.specs.Reading.{readOf, endOf};
-ghost use Rattle.records.specs.Record.{Fits, kindOf, wordsOver, fromWords};
+ghost use Rattle.records.specs.Record.{Fits, kindOf, wordsOver, fromWords, Keeps};
 ghost use Rattle.records.specs.Writing.{writeAnswer, writtenOver};
 
 mod kinds;
@@ -189,6 +189,7 @@ impl Record {
 // The record of a kind with these words, of which it takes the first seven, six or one.
 pub fn from_words(kind: u32, words: &[u32; 7]) -> FromWords
     ensures { λ r. ⌜ r ≡ fromWords kind (now (words .entry)) ⌝ }
+    ensures kept { λ r. ⌜ Keeps kind (now (words .entry)) r ⌝ }
 {
     match kind {
         1 => FromWords::Made(Record::Conic(kinds::conic_from(words))),
