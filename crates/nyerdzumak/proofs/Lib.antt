@@ -1,1 +1,2 @@
+mod Journals
 pub mod Later

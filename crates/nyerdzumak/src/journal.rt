@@ -12,7 +12,9 @@ use records::Written;
 
 // What stands at an offset.
 pub const JOURNAL_RECORD: u32 = 0;
+
 pub const JOURNAL_END: u32 = 1;
+
 pub const JOURNAL_SHORT: u32 = 2;
 
 // Stores what stands at an offset, and where to go on; and the answer's number.

@@ -43,19 +43,17 @@ unfolding fromWords countOf recordOf wordsOf wordsFrom
 returns-3 c =
     let k = c .before .before .match .keys3 in
     let z = c .signed .result in
-    let back : toZ w32 (ofZ w32 z) ≡ z = toZ-ofZ w32 z (record { sfits = c .signed .ok }) in
-    (
+    let back : toZ w32 (ofZ w32 z) ≡ z = toZ-ofZ w32 z (record { sfits = c .signed .ok }) in (
       rw (back, c .signed .ensures .0, k),
       λ v m. let e : v ≡ Correction z = sym (let y : Correction (toZ w32 (ofZ w32 z)) ≡ v = cc in ap Correction (sym back) ∙ y) in (rw (e, k), rw (e, k, c .signed .ensures .1)),
     )
 
 returns-4 : tie.Need-returns-4
 unfolding fromWords
-returns-4 c =
-    (
-      rw (← none (c .before .args .kind) (c .match .rest .0 .0 .1) (c .match .rest .0 .1) (c .match .rest .1)),
-      λ v m. let z : _≡_ {A = ℕ} 0 1 = cc in absurd (omega arith),
-    )
+returns-4 c = (
+  rw (← none (c .before .args .kind) (c .match .rest .0 .0 .1) (c .match .rest .0 .1) (c .match .rest .1)),
+  λ v m. let z : _≡_ {A = ℕ} 0 1 = cc in absurd (omega arith),
+)
 
 pub from-words-spec : {M : Type 1} → statement M
 from-words-spec =
