@@ -9,6 +9,6 @@ pub mod Kept
 mod Moved
 mod Patterns
 mod Signed
-mod Stores
+pub mod Stores
 mod There
 pub mod Together
