@@ -2,18 +2,12 @@
 -- Definitions only.
 use Prim.Native.Nat.{ℕ, _+_}
 use mathlib.Core.Path.{_≡_}
-use mathlib.Core.Bool.{cond}
 use mathlib.Core.List.{List}
-use lib.Dec.{eqb}
 use lib.ListN.{length}
 use lib.Seq.{sets}
-use Rattle.records.specs.declared.Refusal.{Refusal}
-use Rattle.records.specs.declared.Refusal.the-variants.{UnknownKind}
 use Rattle.records.specs.Answers.{numberOfRefusal, numberOfFound, whatOfFound, kindOfFound, wordsOfFound, nextOfFound}
-use Rattle.records.specs.Numbers.{AllBelow}
 use Rattle.records.specs.Reading.{readOf}
-use Rattle.records.specs.Record.{countOf, wordsFrom, bytesFor}
-use Rattle.records.specs.Writing.{refuseStore}
+use Rattle.records.specs.Writing.{payload, bytesWith, Payload, refuseWords, wordsWritten}
 use Rattle.nyerdzumak.specs.Given.{firstOr}
 
 -- read at an offset of the journal s, the call answers n, and leaves w₁, k₁, ws₁ and to₁ for what, kind, words and next
@@ -24,23 +18,12 @@ pub record ReadInto (s : List ℕ) (at n w w₁ k k₁ : ℕ) (ws ws₁ : List �
   pub words : ws₁ ≡ wordsOfFound (readOf s at) ws
   pub next : to₁ ≡ nextOfFound at (readOf s at)
 
--- the first of these words, as many as a kind has; and their bytes
-abbrev pub payload : ℕ → List ℕ → List ℕ
-payload k ws = wordsFrom ws 0 (countOf k)
-
-abbrev pub bytesWith : ℕ → List ℕ → List ℕ
-bytesWith k ws = bytesFor k (payload k ws)
-
--- 18 for a kind that is none, then 2; and else what is well
-abbrev pub refuseWrite : {A : Type 0} → List ℕ → ℕ → ℕ → List ℕ → (Refusal → A) → A → A
-refuseWrite l at k ws refused well = cond (eqb (countOf k) 0) (refused UnknownKind) (refuseStore l at (bytesWith k ws) refused well)
-
--- written at an offset of the buffer l, the call answers n, and leaves l₁ for l and to₁ for next; and words have 32 bits
+-- written at an offset of the buffer l, the call answers n, and leaves l₁ for l and to₁ for next
 pub record WrittenFrom (l l₁ : List ℕ) (at k : ℕ) (ws : List ℕ) (n to to₁ : ℕ) : Type 0 where
-  pub number : n ≡ refuseWrite l at k ws numberOfRefusal 0
-  pub journal : l₁ ≡ refuseWrite l at k ws (λ _. l) (sets l at (bytesWith k ws))
-  pub next : to₁ ≡ refuseWrite l at k ws (λ _. to) (at + length (bytesWith k ws))
-  pub below : n ≡ 0 → AllBelow (payload k ws)
+  pub number : n ≡ refuseWords l at k ws numberOfRefusal 0
+  pub journal : l₁ ≡ wordsWritten l at k ws
+  pub next : to₁ ≡ refuseWords l at k ws (λ _. to) (at + length (bytesWith k ws))
+  pub words : Payload k ws
 
 -- ---- what was written is read at its offset: the kind, every bit of the words, and the next offset
 pub record Same (k : ℕ) (ws : List ℕ) (to n w₁ k₁ : ℕ) (vs vs₁ : List ℕ) (to₁ : ℕ) : Type 0 where

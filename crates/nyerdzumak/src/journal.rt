@@ -7,7 +7,6 @@ ghost use Rattle.nyerdzumak.specs.Given.{firstOr};
 ghost use Rattle.nyerdzumak.specs.Journal.{ReadInto, WrittenFrom};
 use records::Ended;
 use records::Found;
-use records::FromWords;
 use records::Written;
 
 // What stands at an offset.
@@ -101,10 +100,7 @@ pub extern "C" fn nz_journal_write(
 ) -> u32
     ensures { λ r. ⌜ WrittenFrom (now (journal .entry)) (now (journal .exit)) at kind (now (words .entry)) r (now (next .entry)) (now (next .exit)) ⌝ }
 {
-    match records::from_words(kind, words) {
-        FromWords::Made(r) => give_written(records::write(journal, at, r), next),
-        FromWords::Refused(why) => why.number(),
-    }
+    give_written(records::write_words(journal, at, kind, words), next)
 }
 
 // Stores the place that was found, or that of a refused record; and the answer's number.

@@ -2,7 +2,7 @@ pub mod Alone
 mod Counts
 pub mod Cuts
 mod Examples
-pub mod First
+mod First
 mod Journals
 mod Judged
 pub mod Kept

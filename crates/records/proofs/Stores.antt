@@ -1,19 +1,21 @@
 -- Stores of one list after another, and of words. Assumes nothing.
-use mathlib.Core.Path.{_≡_, refl, sym, ap, _∙_}
+use mathlib.Core.Path.{_≡_, refl, sym, ap, _∙_, subst}
 use mathlib.Core.Bool.{Bool, true, false, cond}
 use mathlib.Core.List.{List, [], _∷_, _++_, append-assoc}
 use Prim.Native.Nat.{ℕ, suc, _+_, _*_, _-_, _≤_, _<_}
 use native.Mathlib.Omega.{arith}
 use native.Mathlib.Numerals.{add-one}
-use lib.Dec.{leb}
+use lib.Dec.{leb, eqb}
 use lib.ListN.{length, getD, take, drop, set, length-append}
 use lib.Seq.{sets, sets-eq, drop-cons, take-at, length-take-le}
-use borrow.Author.Tests.{leb-true, le-leb, lt-leb}
-use Rattle.records.specs.declared.Refusal.the-variants.{BufferTooShort}
+use borrow.Author.Tests.{leb-true, le-leb, lt-leb, ne-eqb}
+use Rattle.records.specs.declared.Refusal.the-variants.{BufferTooShort, UnknownKind}
+use Rattle.records.specs.declared.Written.{Written}
 use Rattle.records.specs.declared.Written.the-variants.{To, Refused}
-use Rattle.records.specs.Numbers.{two, four, fours}
-use Rattle.records.specs.Record.{lengthOf, bytesFor}
-use Rattle.records.specs.Writing.{storedAnswer, storedOver}
+use Rattle.records.specs.Numbers.{two, four, fours, AllBelow}
+use Rattle.records.specs.Record.{countOf, lengthOf, bytesFor}
+use Rattle.records.specs.Writing.{storedAnswer, storedOver, Payload, wordsAnswer, wordsWritten}
+use Rattle.records.proofs.Counts.{at-most}
 use Rattle.records.proofs.Patterns.{length-two, length-four, length-fours, length-is}
 
 -- the second list is stored where the first ended
@@ -107,3 +109,27 @@ module _ (l b : List ℕ) (at next : ℕ) (made : storedAnswer l at b ≡ To nex
   up-to-it =
       let z : length (take at l ++ b) ≡ next = length-append (take at l) b ∙ ap (λ (n : ℕ). n + length b) before ∙ sym to in
       ap (take next) (stored-is ∙ sym (append-assoc (take at l) b (drop next l))) ∙ take-at (take at l ++ b) (drop next l) next z
+
+-- ---- a kind and n words of it in the place of a record
+module _ (l ws : List ℕ) (at k n : ℕ) (count : n ≡ countOf k) where
+  pub no-kind : n ≡ 0 → (Refused UnknownKind ≡ wordsAnswer l at k ws) × ((l ≡ wordsWritten l at k ws) × Payload k ws)
+  unfolding wordsAnswer wordsWritten AllBelow
+  no-kind e =
+      let z : countOf k ≡ 0 = sym count ∙ e in
+      (rw z, (rw z, record { there = rw z; below = rw z tt }))
+
+  part : take (n - 0) ws ≡ take (countOf k) ws
+  part = let z : n - 0 ≡ countOf k = omega arith in ap (λ (m : ℕ). take m ws) z
+
+  pub some-kind : (n ≡ 0 → ⊥) → length ws ≡ 7 → (w : Written) (l₁ : List ℕ) → w ≡ storedAnswer l at (bytesFor k (take (n - 0) ws))
+      → l₁ ≡ storedOver l at (bytesFor k (take (n - 0) ws)) → AllBelow (take (n - 0) ws)
+      → (w ≡ wordsAnswer l at k ws) × ((l₁ ≡ wordsWritten l at k ws) × Payload k ws)
+  unfolding wordsAnswer wordsWritten storedAnswer storedOver
+  some-kind some seven w l₁ e f below =
+      let known : eqb (countOf k) 0 ≡ false = ne-eqb (countOf k) 0 (λ z. some (count ∙ z)) in (
+        e ∙ ap (λ (x : List ℕ). storedAnswer l at (bytesFor k x)) part ∙ sym (simp known),
+        (
+          f ∙ ap (λ (x : List ℕ). storedOver l at (bytesFor k x)) part ∙ sym (simp known),
+          record { there = length-take-le (countOf k) ws (omega (arith, at-most k)); below = subst AllBelow part below },
+        ),
+      )

@@ -10,10 +10,10 @@ use Rattle.records.specs.declared.Record.{Record}
 use Rattle.records.specs.declared.Found.the-variants.{Whole}
 use Rattle.records.specs.Numbers.{two, four, fours, half, word, wordsAt, Bytes, AllBelow}
 use Rattle.records.specs.Reading.{readOf}
-use Rattle.records.specs.Record.{kindOf, wordsOf, countOf, lengthOf, wordsFrom, bytesFor, bytesOf, Fits}
+use Rattle.records.specs.Record.{kindOf, wordsOf, countOf, lengthOf, bytesFor, bytesOf, Fits}
 use Rattle.records.proofs.Judged.{Stands, stands}
 use Rattle.records.proofs.Patterns.{length-is}
-use Rattle.records.proofs.Together.{Together, together, from-all}
+use Rattle.records.proofs.Together.{Together, together}
 
 -- ---- bytes to a number and back
 low : (b q : ℕ) → b < 256 → (b + 256 * q) % 256 ≡ b
@@ -109,9 +109,8 @@ there s at next r bytes got =
     let k = half s (at + 4) in
     let n = countOf k in
     let ws = wordsAt s (at + 6) n in
-    let all : wordsFrom ws 0 n ≡ ws = ap (wordsFrom ws 0) (sym (length-words s (at + 6) n)) ∙ from-all ws in
-    let t : Together k ws = together k ws (d .known) (subst AllBelow (sym all) (words-below s bytes n (at + 6))) in
-    let words : wordsOf r ≡ ws = ap wordsOf (sym (d .is)) ∙ t .words ∙ all in
+    let t : Together k ws = together k ws (d .known) (length-words s (at + 6) n) (words-below s bytes n (at + 6)) in
+    let words : wordsOf r ≡ ws = ap wordsOf (sym (d .is)) ∙ t .words in
     let size = length-is n in
     let l : lengthOf (length (wordsOf r)) ≡ word s at = ap lengthOf (ap length words ∙ length-words s (at + 6) n) ∙ sym (d .size) in
     let z : 6 + 4 * n ≡ next - at = omega (arith, d .ends, d .size) in (

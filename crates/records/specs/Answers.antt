@@ -10,8 +10,6 @@ use Rattle.records.specs.declared.Written.{Written}
 use Rattle.records.specs.declared.Written.the-variants as W
 use Rattle.records.specs.declared.Ended.{Ended}
 use Rattle.records.specs.declared.Ended.the-variants as E
-use Rattle.records.specs.declared.FromWords.{FromWords}
-use Rattle.records.specs.declared.FromWords.the-variants as M
 use Rattle.records.specs.Record.{kindOf, wordsOver}
 
 abbrev pub numberOfRefusal : Refusal → ℕ
@@ -70,7 +68,3 @@ numberOfEnded (E.Refused why at) = numberOfRefusal why
 abbrev pub placeOfEnded : Ended → ℕ
 placeOfEnded (E.At end) = end
 placeOfEnded (E.Refused why at) = at
-
-abbrev pub numberOfFromWords : FromWords → ℕ
-numberOfFromWords (M.Made r) = 0
-numberOfFromWords (M.Refused why) = numberOfRefusal why

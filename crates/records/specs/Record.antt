@@ -1,6 +1,5 @@
 -- Records, and each as bytes (docs/RULES.md, "The journal"). Definitions only.
-use Prim.Native.Nat.{ℕ, zero, suc, _+_, _*_}
-use mathlib.Core.Path.{_≡_}
+use Prim.Native.Nat.{ℕ, _+_, _*_}
 use mathlib.Core.Bool.{cond}
 use mathlib.Core.List.{List, [], _∷_, _++_}
 use lib.Dec.{eqb}
@@ -12,9 +11,6 @@ use Rattle.records.specs.declared.ConicBits.{ConicBits}
 use Rattle.records.specs.declared.TransformBits.{TransformBits}
 use Rattle.records.specs.declared.Record.{Record}
 use Rattle.records.specs.declared.Record.the-variants.{Conic, Transform, Correction}
-use Rattle.records.specs.declared.FromWords.{FromWords}
-use Rattle.records.specs.declared.FromWords.the-variants.{Made, Refused}
-use Rattle.records.specs.declared.Refusal.the-variants.{UnknownKind}
 use Rattle.records.specs.Numbers.{two, four, fours, patternOf, signedOf, AllBelow}
 
 -- ---- kinds and their words
@@ -69,19 +65,6 @@ unfoldable pub AllFit : List Record → Type 0
 AllFit [] = Unit
 AllFit (r ∷ rs) = Fits r × AllFit rs
 
--- ---- records and seven lent words
--- the record's words over the first of those that are there
+-- ---- the words of a record over the first of seven
 unfoldable pub wordsOver : Record → List ℕ → List ℕ
 wordsOver r ws = sets ws 0 (wordsOf r)
-
--- the first n of them, from a place on
-unfoldable pub wordsFrom : List ℕ → ℕ → ℕ → List ℕ
-wordsFrom ws i zero = []
-wordsFrom ws i (suc n) = getD ws i 0 ∷ wordsFrom ws (i + 1) n
-
-unfoldable pub fromWords : ℕ → List ℕ → FromWords
-fromWords k ws = cond (eqb (countOf k) 0) (Refused UnknownKind) (Made (recordOf k ws))
-
--- a record that was made is of that kind, and its words are those that were given, bit for bit
-abbrev pub Keeps : ℕ → List ℕ → FromWords → Type 0
-Keeps k ws r = (v : Record) → r ≡ Made v → (kindOf v ≡ k) × (wordsOf v ≡ wordsFrom ws 0 (countOf k))

@@ -60,33 +60,6 @@ fn transform_at(bytes: &[u8], at: usize) -> TransformBits
     }
 }
 
-pub fn conic_from(words: &[u32; 7]) -> ConicBits
-    ensures { λ r. ⌜ r ≡ conicOf (now (words .entry)) ⌝ }
-{
-    ConicBits {
-        x0: words[0],
-        y0: words[1],
-        x1: words[2],
-        y1: words[3],
-        x2: words[4],
-        y2: words[5],
-        weight: words[6],
-    }
-}
-
-pub fn transform_from(words: &[u32; 7]) -> TransformBits
-    ensures { λ r. ⌜ r ≡ transformOf (now (words .entry)) ⌝ }
-{
-    TransformBits {
-        sx: words[0],
-        ky: words[1],
-        kx: words[2],
-        sy: words[3],
-        tx: words[4],
-        ty: words[5],
-    }
-}
-
 // The record of a known kind whose words stand at an offset.
 pub fn record_at(bytes: &[u8], at: usize, kind: u32) -> Record
     requires { ⌜ (0 < countOf kind) × (at + 4 * countOf kind ≤ length (now bytes)) ⌝ }

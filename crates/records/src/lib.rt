@@ -2,10 +2,10 @@
 // what follows it in four bytes, its kind in two, and its words in four each, all with the low byte first. What was written
 // before a power cut is read after it, whatever byte the cut was at: specs/Laws.antt. Written from docs/RULES.md, "The journal".
 ghost use mathlib.Core.Path.{_≡_};
-ghost use Rattle.records.specs.Answers.{numberOfRefusal, numberOfFound, numberOfWritten, numberOfEnded, numberOfFromWords};
+ghost use Rattle.records.specs.Answers.{numberOfRefusal, numberOfFound, numberOfWritten, numberOfEnded};
 ghost use Rattle.records.specs.Reading.{readOf, endOf};
-ghost use Rattle.records.specs.Record.{Fits, kindOf, wordsOver, fromWords, Keeps};
-ghost use Rattle.records.specs.Writing.{writeAnswer, writtenOver};
+ghost use Rattle.records.specs.Record.{Fits, kindOf, wordsOver};
+ghost use Rattle.records.specs.Writing.{writeAnswer, writtenOver, Payload, wordsAnswer, wordsWritten};
 
 mod kinds;
 mod numbers;
@@ -121,24 +121,6 @@ impl Ended {
     }
 }
 
-// The record of a kind and its words, if there is such a kind.
-pub enum FromWords {
-    Made(Record),
-    Refused(Refusal),
-}
-
-impl FromWords {
-    // Its number in docs/RULES.md, "Answer numbers".
-    pub fn number(self) -> u32
-        ensures { λ r. ⌜ r ≡ numberOfFromWords self ⌝ }
-    {
-        match self {
-            FromWords::Made(_) => 0,
-            FromWords::Refused(why) => why.number(),
-        }
-    }
-}
-
 impl Record {
     pub const KIND_CONIC: u32 = 1;
 
@@ -183,19 +165,6 @@ impl Record {
             }
             Record::Correction(z) => words[0] = numbers::pattern(z),
         }
-    }
-}
-
-// The record of a kind with these words, of which it takes the first seven, six or one.
-pub fn from_words(kind: u32, words: &[u32; 7]) -> FromWords
-    ensures { λ r. ⌜ r ≡ fromWords kind (now (words .entry)) ⌝ }
-    ensures kept { λ r. ⌜ Keeps kind (now (words .entry)) r ⌝ }
-{
-    match kind {
-        1 => FromWords::Made(Record::Conic(kinds::conic_from(words))),
-        2 => FromWords::Made(Record::Transform(kinds::transform_from(words))),
-        3 => FromWords::Made(Record::Correction(numbers::signed(words[0]))),
-        _ => FromWords::Refused(Refusal::UnknownKind),
     }
 }
 
@@ -254,6 +223,20 @@ pub fn write(journal: &mut [u8], at: usize, r: Record) -> Written
             store::put(journal, at, Record::KIND_CORRECTION, &words)
         }
     }
+}
+
+// Writes the record of a kind with the first seven, six or one of these words, where there is such a kind and it fits.
+pub fn write_words(journal: &mut [u8], at: usize, kind: u32, words: &[u32; 7]) -> Written
+    ensures { λ w. ⌜ w ≡ wordsAnswer (now (journal .entry)) at kind (now (words .entry)) ⌝ }
+    ensures journal { λ _. ⌜ now (journal .exit) ≡ wordsWritten (now (journal .entry)) at kind (now (words .entry)) ⌝ }
+    ensures words { λ _. ⌜ Payload kind (now (words .entry)) ⌝ }
+{
+    let n = kinds::count(kind) as usize;
+    let all: &[u32] = words;
+    if n == 0 {
+        return Written::Refused(Refusal::UnknownKind);
+    }
+    store::put(journal, at, kind, &all[0..n])
 }
 
 // The offset behind the last whole record of a journal, read from its start: where to write on.

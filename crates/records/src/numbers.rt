@@ -49,7 +49,6 @@ pub fn put_word(out: &mut [u8], at: usize, n: u32)
 // The signed number that 32 bits are.
 pub fn signed(w: u32) -> i32
     ensures { λ r. ⌜ r ≡ signedOf w ⌝ }
-    ensures back { λ r. ⌜ patternOf r ≡ w ⌝ }
 {
     if w < 2147483648 {
         w as i32

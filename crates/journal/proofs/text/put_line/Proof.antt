@@ -55,11 +55,10 @@ returns c =
     let a = c .before .before .before .before .before .before .before .args in
     let bs = now (a .payload) in
     let z : 2 * length bs + 2 + 1 ≡ length (lineOf (a .kind) bs) = omega (arith, length-line (a .kind) bs) in
-    let d : c .before .before .before .before .digit .result ≡ digitOf (a .kind) = c .before .before .before .before .digit .ensures in
-    (
+    let d : c .before .before .before .before .digit .result ≡ digitOf (a .kind) = c .before .before .before .before .digit .ensures in (
       z,
       stored-line (a .kind) bs (now (a .out)) (c .before .before .put-hex .last .0) (2 * length bs + 2) refl
-      (c .before .before .put-hex .ensures ∙ ap (λ (x : ℕ). sets (set (set (now (a .out)) 0 x) 1 32) 2 (hexOf bs)) d),
+          (c .before .before .put-hex .ensures ∙ ap (λ (x : ℕ). sets (set (set (now (a .out)) 0 x) 1 32) 2 (hexOf bs)) d),
     )
 
 pub put-line-spec : {M : Type 1} → statement M

@@ -34,7 +34,7 @@ unfolding countOf recordOf wordsAt
 returns-3 c =
     let a = c .before .before .before .before in
     let m = c .before .before .match .rest in
-    rw (toZ-ofZ w32 (c .signed .result) (record { sfits = c .signed .ok }), c .signed .ensures .0, c .before .word-at .ensures, third (a .args .kind) (a .pre .0) (m .0 .1) (m .1))
+    rw (toZ-ofZ w32 (c .signed .result) (record { sfits = c .signed .ok }), c .signed .ensures, c .before .word-at .ensures, third (a .args .kind) (a .pre .0) (m .0 .1) (m .1))
 
 pub record-at-spec : {M : Type 1} → statement M
 record-at-spec =
