@@ -1,2 +1,1 @@
-mod Journals
 pub mod Later

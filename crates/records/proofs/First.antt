@@ -6,14 +6,15 @@ use Prim.Native.Nat.{ℕ, suc, _+_, _-_, _*_, _≤_, _<_}
 use native.Mathlib.Omega.{arith}
 use lib.Dec.{eqb, ltb}
 use lib.ListN.{length, take, drop, length-append}
-use lib.Seq.{length-take-le}
-use borrow.Author.Tests.{eqb-true, eqb-false, ltb-true, ltb-false}
+use lib.Seq.{length-take-le, take-at, sets, sets-eq}
+use borrow.Author.Tests.{eqb-true, eqb-false, ltb-true, ltb-false, ne-eqb}
 use Rattle.records.specs.declared.Record.{Record}
 use Rattle.records.specs.declared.Record.the-variants.{Conic, Transform, Correction}
 use Rattle.records.specs.declared.Found.the-variants.{Whole, End, Short}
 use Rattle.records.specs.Numbers.{two, four, fours, half, word, wordsAt, signedOf, AllBelow}
 use Rattle.records.specs.Reading.{readOf}
-use Rattle.records.specs.Record.{kindOf, wordsOf, countOf, recordOf, lengthOf, bytesFor, bytesOf, Fits}
+use Rattle.records.specs.Record.{kindOf, wordsOf, countOf, recordOf, lengthOf, bytesFor, bytesOf, Fits, wordsOver}
+use Rattle.records.specs.Writing.{storedAnswer, storedOver, writeAnswer, writtenOver, bytesWith, wordsAnswer, wordsWritten}
 use Rattle.records.proofs.Judged.{at-end, no-length, no-kind, cut-off, whole}
 use Rattle.records.proofs.Patterns.{word-four, half-two, words-drop, word-take, half-take, length-is}
 use Rattle.records.proofs.Signed.{pattern-below, signed-pattern}
@@ -118,3 +119,23 @@ module _ (r : Record) (fit : Fits r) where
       go : (b : Bool) → eqb m 0 ≡ b → readOf s 0 ≡ cond b End Short
       go true e = sym (at-end s 0 (omega (arith, l, eqb-true m 0 e)))
       go false e = sym (next (omega (arith, eqb-false m 0 e)) (ltb m 4) refl)
+
+-- ---- written by its kind and its words
+module _ (l z : List ℕ) (at : ℕ) (r : Record) (fit : Fits r) (k : ℕ) (ws : List ℕ) (kind : k ≡ kindOf r) (words : ws ≡ wordsOver r z) (seven : length z ≡ 7) where
+  same-bytes : bytesWith k ws ≡ bytesOf r
+  unfolding bytesOf wordsOver
+  same-bytes =
+      let n = known r fit in
+      let front : take (countOf (kindOf r)) (sets z 0 (wordsOf r)) ≡ wordsOf r =
+      ap (take (countOf (kindOf r))) (sets-eq (wordsOf r) z 0 (omega (arith, n .few)))
+      ∙ take-at (wordsOf r) (drop (0 + length (wordsOf r)) z) (countOf (kindOf r)) (n .count) in
+      ap (λ (x : ℕ). bytesFor x (take (countOf x) ws)) kind
+      ∙ ap (λ (x : List ℕ). bytesFor (kindOf r) (take (countOf (kindOf r)) x)) words
+      ∙ ap (bytesFor (kindOf r)) front
+
+  known-kind : eqb (countOf k) 0 ≡ false
+  known-kind = ne-eqb (countOf k) 0 (λ e. known r fit .some (known r fit .count ∙ sym (ap countOf kind) ∙ e))
+
+  pub by-words : (wordsAnswer l at k ws ≡ writeAnswer l at r) × (wordsWritten l at k ws ≡ writtenOver l at r)
+  unfolding wordsAnswer wordsWritten storedAnswer storedOver
+  by-words = (simp known-kind (ap (storedAnswer l at) same-bytes), simp known-kind (ap (storedOver l at) same-bytes))

@@ -144,6 +144,7 @@ impl Record {
     // Stores its words: seven, six or one. The others keep their contents.
     pub fn store_words(self, words: &mut [u32; 7])
         ensures { λ _. ⌜ now (words .exit) ≡ wordsOver self (now (words .entry)) ⌝ }
+        ensures fits { λ _. ⌜ Fits self ⌝ }
     {
         match self {
             Record::Conic(c) => {
@@ -209,20 +210,9 @@ pub fn write(journal: &mut [u8], at: usize, r: Record) -> Written
     ensures journal { λ _. ⌜ now (journal .exit) ≡ writtenOver (now (journal .entry)) at r ⌝ }
     ensures fits { λ _. ⌜ Fits r ⌝ }
 {
-    match r {
-        Record::Conic(c) => {
-            let words = [c.x0, c.y0, c.x1, c.y1, c.x2, c.y2, c.weight];
-            store::put(journal, at, Record::KIND_CONIC, &words)
-        }
-        Record::Transform(t) => {
-            let words = [t.sx, t.ky, t.kx, t.sy, t.tx, t.ty];
-            store::put(journal, at, Record::KIND_TRANSFORM, &words)
-        }
-        Record::Correction(z) => {
-            let words = [numbers::pattern(z)];
-            store::put(journal, at, Record::KIND_CORRECTION, &words)
-        }
-    }
+    let mut words = [0u32; 7];
+    r.store_words(&mut words);
+    write_words(journal, at, r.kind(), &words)
 }
 
 // Writes the record of a kind with the first seven, six or one of these words, where there is such a kind and it fits.

@@ -1,8 +1,10 @@
 -- `records::Record::store_words` meets its contract: stores one after the other are one store of their list. Assumes nothing.
 use mir.Syntax.{w32}
+use mir.Val.{SFits}
 use mir.ValLaws.{toZ-ofZ}
 use borrow.Author.Needs.{needs}
-use Rattle.records.specs.Record.{wordsOf, wordsOver}
+use Rattle.records.specs.Numbers.{AllBelow}
+use Rattle.records.specs.Record.{wordsOf, wordsOver, Fits}
 use Rattle.records.proofs.Record.store_words.Statement.{statement}
 use Rattle.records.proofs.Record.store_words.Tie as tie
 
@@ -61,18 +63,23 @@ element-write-words-14 : tie.Need-element-write-words-14
 element-write-words-14 c = search needs
 
 returns : tie.Need-returns
-unfolding wordsOver wordsOf
-returns c = rw (c .before .self .given .1)
+unfolding wordsOver wordsOf Fits AllBelow
+returns c =
+    let g = c .known-told .given .0 .1 .1 in
+    (rw (c .before .self .given .1), rw (c .before .self .given .1) (g .0 .1, (g .1 .0 .1, (g .1 .1 .0 .1, (g .1 .1 .1 .0 .1, (g .1 .1 .1 .1 .0 .1, (g .1 .1 .1 .1 .1 .0 .1, (g .1 .1 .1 .1 .1 .1 .0 .1, tt))))))))
 
 returns-2 : tie.Need-returns-2
-unfolding wordsOver wordsOf
-returns-2 c = rw (c .before .self2 .given .1)
+unfolding wordsOver wordsOf Fits AllBelow
+returns-2 c =
+    let g = c .known-told2 .given .0 .1 .1 in
+    (rw (c .before .self2 .given .1), rw (c .before .self2 .given .1) (g .0 .1, (g .1 .0 .1, (g .1 .1 .0 .1, (g .1 .1 .1 .0 .1, (g .1 .1 .1 .1 .0 .1, (g .1 .1 .1 .1 .1 .0 .1, tt)))))))
 
 returns-3 : tie.Need-returns-3
-unfolding wordsOver wordsOf
+unfolding wordsOver wordsOf Fits
 returns-3 c =
     let told = c .before .before .self3 .given in
-    rw (c .pattern .ensures, told .1, toZ-ofZ w32 (told .0 .0) (record { sfits = c .before .known-told3 .given .0 .1 }))
+    let fit : SFits w32 (told .0 .0) = record { sfits = c .before .known-told3 .given .0 .1 } in
+    (rw (c .pattern .ensures, told .1, toZ-ofZ w32 (told .0 .0) fit), rw (told .1) fit)
 
 pub store-words-spec : {M : Type 1} → statement M
 store-words-spec =

@@ -1,4 +1,4 @@
--- What `nz_journal_write` gives of an answer; and what it wrote `nz_journal_read` reads. Assumes nothing.
+-- What `write_from` gives of an answer; and what it wrote `read_into` reads. Assumes nothing.
 use mathlib.Core.Path.{_≡_, refl, sym, ap, _∙_}
 use mathlib.Core.Bool.{Bool, true, false, cond}
 use mathlib.Core.List.{List}
@@ -19,8 +19,7 @@ use Rattle.records.specs.Record.{wordsOf, countOf, recordOf, bytesFor, bytesOf,
 use Rattle.records.specs.Writing.{storedAnswer, storedOver, payload, bytesWith, Payload, refuseWords, wordsAnswer, wordsWritten}
 use Rattle.records.proofs.Alone.{written-is-read}
 use Rattle.records.proofs.Together.{Together, together}
-use Rattle.nyerdzumak.specs.Given.{firstOr}
-use Rattle.nyerdzumak.specs.Journal.{ReadInto, WrittenFrom, Same, WrittenIsRead}
+use Rattle.journal_calls.specs.Calls.{firstOr, ReadInto, WrittenFrom, Same, WrittenIsRead}
 
 -- ---- what is given of an answer, by the tests that chose it
 number-of : (b c : Bool) (x : ℕ) → numberOfWritten (cond b (Refused UnknownKind) (cond c (To x) (Refused BufferTooShort))) ≡ cond b 18 (cond c 0 2)
@@ -59,9 +58,9 @@ done l at k ws e = go (eqb (countOf k) 0) (leb (at + length (bytesWith k ws)) (l
     go false true f e = (eqb-false (countOf k) 0 f, refl)
     go false false f e = absurd (omega arith)
 
-pub written-is-read-in-c : WrittenIsRead
+pub written-is-read-again : WrittenIsRead
 unfolding storedAnswer storedOver wordsWritten bytesOf wordsOver
-written-is-read-in-c l l₁ at k ws old to n w w₁ j k₁ vs vs₁ to₁ a g =
+written-is-read-again l l₁ at k ws old to n w w₁ j k₁ vs vs₁ to₁ a g =
     let x = bytesWith k ws in
     let d = done l at k ws (a .number) in
     let some : eqb (countOf k) 0 ≡ false = ne-eqb (countOf k) 0 (d .0) in

@@ -1,7 +1,7 @@
--- `nyerdzumak::journal::give_found` meets its contract: in each arm the answer is what its pattern says. Assumes nothing.
+-- `journal_calls::give_found` meets its contract: in each arm the answer is what its pattern says. Assumes nothing.
 use borrow.Author.Needs.{needs}
-use Rattle.nyerdzumak.proofs.journal.give_found.Statement.{statement}
-use Rattle.nyerdzumak.proofs.journal.give_found.Tie as tie
+use Rattle.journal_calls.proofs.give_found.Statement.{statement}
+use Rattle.journal_calls.proofs.give_found.Tie as tie
 
 number-requires : tie.Need-number-requires
 number-requires c κs = search needs
@@ -27,7 +27,7 @@ enum-known-found-2 c = search needs
 returns : tie.Need-returns
 returns c =
     let told = c .before .before .before .before .found .given .1 in
-    (c .before .before .before .before .before .before .number .ensures, (rw told, (rw told (c .before .before .kind .ensures), (rw told (c .store-words .ensures), rw told))))
+    (c .before .before .before .before .before .before .number .ensures, (rw told, (rw told (c .before .before .kind .ensures), (rw told (c .store-words .ensures .0), rw told))))
 
 returns-2 : tie.Need-returns-2
 returns-2 c =
