@@ -1,7 +1,8 @@
-// The clock: cutting, mapping, roots and narrowing beside the original, and dates beside plain Rust, in one process: medians
-// of 401 batches, in nanoseconds a call. Cuts are timed with the buffer cleared before each call, on both sides, and not
-// cleared; and what a point costs at level 4 and at level 6, in turns.
+// The clock: cutting, mapping, roots and narrowing beside the original, and dates and journals beside plain Rust, in one process:
+// medians of 401 batches, in nanoseconds a call, or of journals in bytes a second. Cuts are timed with the buffer cleared before
+// each call, on both sides, and not cleared; and what a point costs at level 4 and at level 6, in turns.
 mod dates;
+mod journal;
 
 use original::path_geometry::Conic;
 use original::{Point, Transform};
@@ -184,4 +185,5 @@ fn main() {
     mapping();
     ground();
     dates::all();
+    journal::all();
 }

@@ -1,20 +1,24 @@
 /* Nyerdzumak: conics cut into quads whose points keep one direction along both axes (nz_cut_in_order_both says of which
- * conics), dates of recorded times by such cuts (nz_date_table), and the float geometry below. For C99 or newer, and C++.
+ * conics), dates of recorded times by such cuts (nz_date_table), a journal of corrections that can be read after a power cut
+ * (nz_journal_read), and the float geometry below. For C99 or newer, and C++.
  *
  * ANSWERS. Every call ends, on any bits, and reads and writes what is said here and nothing else. A call that can refuse
  * returns one of the numbers below, NZ_OK or why it did nothing; of several that apply the first in this order is given:
- * NZ_OUT_OF_RANGE or NZ_LEVEL_TOO_HIGH, then NZ_BAD_TOLERANCE, then NZ_BUFFER_TOO_SHORT, then NZ_ODD_LENGTH, then
- * NZ_ENTRY_OUT_OF_RANGE, then NZ_TABLE_FALLS, then the others. A call that cannot refuse returns what it gives, or nothing.
- * So every uint32_t that is called an answer here is worth testing.
+ * NZ_OUT_OF_RANGE, NZ_LEVEL_TOO_HIGH or, in a write, NZ_UNKNOWN_KIND, then NZ_BAD_TOLERANCE, then NZ_BUFFER_TOO_SHORT, then
+ * NZ_ODD_LENGTH, then NZ_ENTRY_OUT_OF_RANGE, then NZ_TABLE_FALLS, then the others; reading a journal has an order of its own,
+ * which is said there. A call that cannot refuse returns what it gives, or nothing. So every uint32_t that is called an answer
+ * here is worth testing.
  *
- * OUTPUTS. An output that has no value keeps its contents: places for roots past those that were found, and all outputs
- * beside a refusal, but that nz_date_all stores *first_bad for NZ_TIME_OUTSIDE. A buffer that is longer than needed keeps its
- * tail. No output may be NULL.
+ * OUTPUTS. An output that has no value keeps its contents: places for roots past those that were found, words past a record's
+ * payload, and all outputs beside a refusal, but that nz_date_all stores *first_bad for NZ_TIME_OUTSIDE, and that reading a
+ * journal stores the refused record's offset, in *next or *end, for NZ_BAD_LENGTH and NZ_UNKNOWN_KIND. A buffer that is longer
+ * than needed keeps its tail, and a journal what stands before and behind a written record. No output may be NULL.
  *
  * BUFFERS. Points, and entries of date tables, are numbers, x then y. A lent buffer is a pointer and then its length in
- * numbers, not in points, entries or bytes. The pointer must be good for that length and must not be NULL, not even with
- * length 0. A buffer must not overlap another argument's memory. Matrices are the exception: where out is a matrix it may be
- * the same array as m, a or b, but not overlap it otherwise.
+ * numbers, not in points, entries or bytes. A journal is bytes: its length and the offsets in it are in bytes. The pointer
+ * must be good for that length and must not be NULL, not even with length 0. A buffer must not overlap another argument's
+ * memory. Matrices are the exception: where out is a matrix it may be the same array as m, a or b, but not overlap it
+ * otherwise.
  *
  * FLOATS. What is proved is proved of IEEE 754 arithmetic: round to nearest, subnormals kept. Do not set flush-to-zero or
  * another rounding mode; linking with -ffast-math sets flush-to-zero at start-up, and then cuts of numbers near 1e-38 turn
@@ -30,7 +34,7 @@
 #include <stdbool.h>
 #include <stdint.h>
 
-#define NZ_VERSION "0.4.0"
+#define NZ_VERSION "0.5.0"
 
 /* the answers */
 #define NZ_OK 0u                  /* none below applies */
@@ -46,6 +50,8 @@
 #define NZ_ENTRY_OUT_OF_RANGE 10u /* a number of a date table, before it is rounded, is not from 0 to NZ_MAX_ENTRY */
 #define NZ_TIME_OUTSIDE 11u       /* a recorded time is before the first x of a date table or after the last */
 #define NZ_TABLE_FALLS 12u        /* an x or a y of a date table is below that of the entry before */
+#define NZ_BAD_LENGTH 17u         /* a record's length is below 2, or not that of its kind */
+#define NZ_UNKNOWN_KIND 18u       /* a record's kind is none of those below */
 
 /* the highest level of a cut, and the room in numbers that a cut at a level up to that one needs: 6, 10, 18, 34, 66, 130, 258;
  * test a level that is not yours before you use it here */
@@ -60,7 +66,18 @@
 /* the ceiling that tiny-skia-path has for the choice of a level; nz_conic_compute_quad_pow2 takes this one or NZ_MAX_LEVEL */
 #define NZ_MAX_CONIC_TO_QUAD_POW2 4u
 
-/* A length, in numbers: 64 bits on every target, also where size_t has 32. */
+/* what a read of a journal found: a record, no byte more, or the beginning of a record whose rest is not there */
+#define NZ_JOURNAL_RECORD 0u
+#define NZ_JOURNAL_END 1u
+#define NZ_JOURNAL_SHORT 2u
+
+/* the kinds of a journal's records, and the bytes of the longest, a conic, from the first of its length on */
+#define NZ_KIND_CONIC 1u      /* seven words, each the bits of a float: start, middle and end, x then y, and the weight */
+#define NZ_KIND_TRANSFORM 2u  /* six words, each the bits of a float: sx, ky, kx, sy, tx, ty */
+#define NZ_KIND_CORRECTION 3u /* one word, the bits of an int32_t: milliseconds */
+#define NZ_MAX_RECORD 34u
+
+/* A length in numbers, or, of a journal, a length or an offset in bytes: 64 bits on every target, also where size_t has 32. */
 typedef uint64_t nz_len;
 
 #if defined(__cplusplus)
@@ -153,6 +170,47 @@ uint32_t nz_date_at(const uint32_t *NZ_RESTRICT table, nz_len table_len, uint32_
  *   Answers as nz_date_at does; with no times the table is tested all the same. Beside a refusal the times are as they stood.
  * For NZ_TIME_OUTSIDE, and for that alone, *first_bad is stored: the place, counted from 0, of the first time outside. */
 uint32_t nz_date_all(const uint32_t *NZ_RESTRICT table, nz_len table_len, uint32_t *NZ_RESTRICT times, nz_len times_len, nz_len *first_bad);
+
+/* ---- the journal: records one behind the other, as bytes, little-endian on every target ---- */
+
+/* A record is a length of four bytes, which counts the bytes that follow it, a kind of two bytes, and the payload, words of
+ * four bytes. A conic has the length 30, a transform 26, a correction 6; that of -250 milliseconds is the ten bytes
+ * 06 00 00 00 03 00 06 FF FF FF. Words are bits: bring floats into them and back by memcpy, so that the bits of a NaN survive,
+ * and an int32_t in the same way.
+ *   Proved: whatever byte a journal of good records is cut at, reading it gives exactly the records that are whole before the
+ * cut, and then NZ_JOURNAL_END at a boundary and NZ_JOURNAL_SHORT elsewhere. Writing again what was read from an uncut one
+ * restores the same bytes.
+ *
+ * AFTER A POWER CUT write on at the *end of nz_journal_end. The journal's length is then the *next of nz_journal_write and no
+ * more: a torn tail can be longer than the record that is written over it, and what is left of it would be taken for the next
+ * record. So cut the tail off, or keep the length yourself.
+ *   Lend the bytes that were written and no others. Nothing tells flash that was never written from damage: FF FF FF FF is a
+ * length that no kind has, so that erased bytes are refused with NZ_UNKNOWN_KIND or NZ_BAD_LENGTH, and fewer than six of them
+ * are a torn tail.
+ *   A written record is in your buffer and not yet on the medium. Bring it there from its first byte to its last, and count
+ * only bytes that are there: no sum guards a payload, and erased bytes where it should be are read as one. */
+
+/* Reads the record at an offset. The first that applies is what comes of it: no byte left, also where the offset is past the
+ * end, NZ_JOURNAL_END; one to three, NZ_JOURNAL_SHORT; a length below 2, NZ_BAD_LENGTH; fewer than six bytes left,
+ * NZ_JOURNAL_SHORT; a kind that is none, NZ_UNKNOWN_KIND; another length than its kind's, NZ_BAD_LENGTH; a payload that is not
+ * all there, NZ_JOURNAL_SHORT; else NZ_JOURNAL_RECORD. So no length, however large, leads past the end.
+ *   Answers NZ_OK, NZ_BAD_LENGTH or NZ_UNKNOWN_KIND. *what is stored for NZ_OK alone; *kind, and as many words as the payload
+ * has, 7, 6 or 1, where there is a record. *next is always stored: the offset behind the record, and where there is none `at`
+ * itself, which beside a refusal is the bad record's offset. Test the answer, and then *what: the end is no refusal. */
+uint32_t nz_journal_read(const uint8_t *NZ_RESTRICT journal, nz_len journal_len, nz_len at, uint32_t *what, uint32_t *kind, uint32_t words[7], nz_len *next);
+
+/* Writes a record of a kind at an offset. Of the seven words that are lent as many are taken as its payload has. journal_len
+ * is the room of the buffer and not the length of what was written so far; NZ_MAX_RECORD bytes from the offset on are enough
+ * for any kind. The bytes before the record and behind it keep their contents.
+ *   Answers NZ_OK; NZ_UNKNOWN_KIND; NZ_BUFFER_TOO_SHORT where the record does not fit, also for an offset past the end. *next,
+ * the offset behind the record, is stored for NZ_OK alone. */
+uint32_t nz_journal_write(uint8_t *NZ_RESTRICT journal, nz_len journal_len, nz_len at, uint32_t kind, const uint32_t words[7], nz_len *next);
+
+/* Reads a journal from its first byte on, and gives the offset behind its last whole record: the place to write on at, where
+ * it ends at a boundary and where its tail is torn.
+ *   Answers NZ_OK; or NZ_BAD_LENGTH or NZ_UNKNOWN_KIND of the first bad record, whose offset is then stored in *end. What is
+ * before it are whole records, and what to do with the rest is yours to decide. */
+uint32_t nz_journal_end(const uint8_t *NZ_RESTRICT journal, nz_len journal_len, nz_len *end);
 
 /* ---- quads and cubics: six and eight lent numbers ---- */
 

@@ -1,7 +1,8 @@
 // The library's calls for a Rust program that links it: `include!` this file, or name it by `#[path]`; it is taken by the
 // editions 2021 and 2024, from Rust 1.82 on. Link with `-L native=FOLDER -l static=nyerdzumak`. What each call does, and
-// what its caller owes it, stands in nyerdzumak.h. A lent slice is a pointer that is not null and its length in numbers.
-pub const NZ_VERSION: &str = "0.4.0";
+// what its caller owes it, stands in nyerdzumak.h. A lent slice is a pointer that is not null and its length in numbers, which
+// of a journal are bytes.
+pub const NZ_VERSION: &str = "0.5.0";
 
 pub const NZ_OK: u32 = 0;
 pub const NZ_LEVEL_TOO_HIGH: u32 = 1;
@@ -16,6 +17,8 @@ pub const NZ_ODD_LENGTH: u32 = 9;
 pub const NZ_ENTRY_OUT_OF_RANGE: u32 = 10;
 pub const NZ_TIME_OUTSIDE: u32 = 11;
 pub const NZ_TABLE_FALLS: u32 = 12;
+pub const NZ_BAD_LENGTH: u32 = 17;
+pub const NZ_UNKNOWN_KIND: u32 = 18;
 
 // The highest level of a cut, and the ceiling that tiny-skia-path has for the choice of a level.
 pub const NZ_MAX_LEVEL: u32 = 6;
@@ -23,6 +26,17 @@ pub const NZ_MAX_CONIC_TO_QUAD_POW2: u32 = 4;
 
 // The largest number of a date table, in milliseconds.
 pub const NZ_MAX_ENTRY: u32 = 16777216;
+
+// What a read of a journal found: a record, no byte more, or a record whose rest is not there.
+pub const NZ_JOURNAL_RECORD: u32 = 0;
+pub const NZ_JOURNAL_END: u32 = 1;
+pub const NZ_JOURNAL_SHORT: u32 = 2;
+
+// The kinds of a journal's records, with payloads of 7, 6 and 1 words; and the bytes of the longest.
+pub const NZ_KIND_CONIC: u32 = 1;
+pub const NZ_KIND_TRANSFORM: u32 = 2;
+pub const NZ_KIND_CORRECTION: u32 = 3;
+pub const NZ_MAX_RECORD: u32 = 34;
 
 // The room in numbers that a cut at a level up to NZ_MAX_LEVEL needs.
 pub const fn nz_cut_room(level: u32) -> u64 {
@@ -46,6 +60,9 @@ unsafe extern "C" {
     pub fn nz_date_table(src: *const f32, src_len: u64, weight: f32, level: u32, table: *mut u32, table_len: u64) -> u32;
     pub fn nz_date_at(table: *const u32, table_len: u64, recorded: u32, date: *mut u32) -> u32;
     pub fn nz_date_all(table: *const u32, table_len: u64, times: *mut u32, times_len: u64, first_bad: *mut u64) -> u32;
+    pub fn nz_journal_read(journal: *const u8, journal_len: u64, at: u64, what: *mut u32, kind: *mut u32, words: *mut [u32; 7], next: *mut u64) -> u32;
+    pub fn nz_journal_write(journal: *mut u8, journal_len: u64, at: u64, kind: u32, words: *const [u32; 7], next: *mut u64) -> u32;
+    pub fn nz_journal_end(journal: *const u8, journal_len: u64, end: *mut u64) -> u32;
     pub fn nz_eval_quad_at(src: *const f32, src_len: u64, t: f32, out: *mut [f32; 2]) -> u32;
     pub fn nz_eval_cubic_pos_at(src: *const f32, src_len: u64, t: f32, out: *mut [f32; 2]) -> u32;
     pub fn nz_eval_quad_tangent_at(src: *const f32, src_len: u64, t: f32, out: *mut [f32; 2]) -> u32;

@@ -45,7 +45,16 @@ word-at-requires-7 c κs = search needs
 
 returns : tie.Need-returns
 unfolding wordsAt
-returns c = cc
+returns c =
+    rw (
+      c .before .before .before .before .before .before .word-at .ensures,
+      c .before .before .before .before .before .word-at2 .ensures,
+      c .before .before .before .before .word-at3 .ensures,
+      c .before .before .before .word-at4 .ensures,
+      c .before .before .word-at5 .ensures,
+      c .before .word-at6 .ensures,
+      c .word-at7 .ensures,
+    )
 
 pub conic-at-spec : {M : Type 1} → statement M
 conic-at-spec =

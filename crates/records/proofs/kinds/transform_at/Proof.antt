@@ -39,7 +39,15 @@ word-at-requires-6 c κs = search needs
 
 returns : tie.Need-returns
 unfolding wordsAt
-returns c = cc
+returns c =
+    rw (
+      c .before .before .before .before .before .word-at .ensures,
+      c .before .before .before .before .word-at2 .ensures,
+      c .before .before .before .word-at3 .ensures,
+      c .before .before .word-at4 .ensures,
+      c .before .word-at5 .ensures,
+      c .word-at6 .ensures,
+    )
 
 pub transform-at-spec : {M : Type 1} → statement M
 transform-at-spec =
