@@ -2,6 +2,9 @@
 // it is cut off, and 34 bytes decide, so that no more are kept however long the journal is.
 use super::text;
 use records::Found;
+use records::Record;
+
+const ROOM: usize = Record::MAX_RECORD as usize;
 
 // How many bytes of the record at hand are kept, its offset, and whether one was refused, behind which nothing is read.
 pub struct Place {
@@ -71,7 +74,7 @@ fn all_gathered(window: &mut [u8], at: Place, piece: &[u8]) -> Place {
 // Prints the journal that a descriptor gives. A proved loop has to end, and nothing says that the input does: it counts its turns
 // down from a number that no input uses up. A journal that can't be read has no last line, and why is told by its name.
 pub fn print(fd: i32, name: &[u8]) {
-    let mut room = [0u8; 34];
+    let mut room = [0u8; ROOM];
     let window: &mut [u8] = &mut room;
     let mut space = io::buffer();
     let piece: &mut [u8] = &mut space;

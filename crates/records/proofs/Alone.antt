@@ -12,13 +12,13 @@ use Rattle.records.specs.declared.Record.{Record}
 use Rattle.records.specs.declared.Refusal.the-variants.{BadLength, UnknownKind}
 use Rattle.records.specs.declared.Found.{Found}
 use Rattle.records.specs.declared.Found.the-variants.{Whole, Short, Refused}
-use Rattle.records.specs.Laws.{moved, ReadBack, WrittenIsRead, ReadStandsThere, NothingBefore, NothingBehind, ThirtyFourDecide}
+use Rattle.records.specs.Laws.{moved, ReadBack, WrittenIsRead, ReadStandsThere, NothingBefore, NothingBehind, ThirtyFourAtMost, ThirtyFourDecide}
 use Rattle.records.specs.Numbers.{half, word, wordsAt}
 use Rattle.records.specs.Reading.{readOf}
 use Rattle.records.specs.Record.{bytesOf, countOf, recordOf, Fits}
 use Rattle.records.specs.Writing.{storedOver}
 use Rattle.records.proofs.Counts.{at-most}
-use Rattle.records.proofs.First.{read-first}
+use Rattle.records.proofs.First.{at-most-34, read-first}
 use Rattle.records.proofs.Judged.{forward, small, left-to-judge}
 use Rattle.records.proofs.Moved.{nothing-before}
 use Rattle.records.proofs.Patterns.{word-take, half-take, words-take}
@@ -58,6 +58,9 @@ nothing-behind-is-read s t at to next r b got same =
     read-here t (drop m (drop to t)) to r (k .1) d ∙ ap (λ (n : ℕ). Whole r (to + n)) l
 
 -- ---- 34 bytes decide
+pub thirty-four-at-most : ThirtyFourAtMost
+thirty-four-at-most r = at-most-34 r
+
 module _ (s : List ℕ) (at : ℕ) (more : at + 34 < length s) where
   s′ : List ℕ
   s′ = take (at + 34) s

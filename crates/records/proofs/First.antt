@@ -43,6 +43,16 @@ known (Correction z) fit =
       back = ap Correction (signed-pattern z fit);
     }
 
+few-words : (r : Record) → length (wordsOf r) < 8
+unfolding wordsOf
+few-words (Conic c) = omega arith
+few-words (Transform t) = omega arith
+few-words (Correction z) = omega arith
+
+pub at-most-34 : (r : Record) → length (bytesOf r) ≤ 34
+unfolding bytesOf
+at-most-34 r = omega (arith, length-bytes-for (kindOf r) (wordsOf r), few-words r)
+
 words-back : (ws q : List ℕ) → AllBelow ws → wordsAt (fours ws ++ q) 0 (length ws) ≡ ws
 unfolding wordsAt fours four AllBelow
 words-back [] q h = refl

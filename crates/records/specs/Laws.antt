@@ -1,4 +1,4 @@
--- What holds of every journal (docs/RULES.md, "The journal"). Statements only; proofs/Laws proves them.
+-- What holds of every journal (docs/RULES.md, "The journal"). Statements only; proofs/Alone, Cuts and Kept prove them.
 use Prim.Native.Nat.{ℕ, _+_, _-_, _≤_, _<_}
 use mathlib.Core.Path.{_≡_}
 use mathlib.Core.Bool.{cond}
@@ -90,6 +90,9 @@ NothingBehind =
     (s t : List ℕ) (at to next : ℕ) (r : Record) → Bytes s → readOf s at ≡ Whole r next → take (next - at) (drop at s) ≡ take (next - at) (drop to t)
     → readOf t to ≡ Whole r (to + (next - at))
 
--- 34 bytes decide, however long the journal is
+-- the longest record has 34 bytes, and so many decide, however long the journal is
+abbrev pub ThirtyFourAtMost : Type 0
+ThirtyFourAtMost = (r : Record) → length (bytesOf r) ≤ 34
+
 abbrev pub ThirtyFourDecide : Type 0
 ThirtyFourDecide = (s : List ℕ) (at : ℕ) → readOf (take (at + 34) s) at ≡ readOf s at

@@ -128,7 +128,7 @@ impl Record {
 
     pub const KIND_CORRECTION: u32 = 3;
 
-    // The bytes of the longest record, a conic's.
+    // How many bytes the longest record has, a conic's.
     pub const MAX_RECORD: u32 = 34;
 
     pub fn kind(self) -> u32
@@ -204,7 +204,7 @@ pub fn read(journal: &[u8], at: usize) -> Found
     Found::Whole(r, at + whole)
 }
 
-// Writes a record at an offset, where it fits. Of a record that is read again nothing is lost: its numbers have 32 bits.
+// Writes a record at an offset, where it fits. That its numbers have 32 bits is what the laws of a journal ask of it.
 pub fn write(journal: &mut [u8], at: usize, r: Record) -> Written
     ensures { λ w. ⌜ w ≡ writeAnswer (now (journal .entry)) at r ⌝ }
     ensures journal { λ _. ⌜ now (journal .exit) ≡ writtenOver (now (journal .entry)) at r ⌝ }
