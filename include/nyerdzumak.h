@@ -178,8 +178,9 @@ uint32_t nz_date_all(const uint32_t *NZ_RESTRICT table, nz_len table_len, uint32
  * 06 00 00 00 03 00 06 FF FF FF. Words are bits: bring floats into them and back by memcpy, so that the bits of a NaN survive,
  * and an int32_t in the same way.
  *   Proved: whatever byte a journal of good records is cut at, reading it gives exactly the records that are whole before the
- * cut, and then NZ_JOURNAL_END at a boundary and NZ_JOURNAL_SHORT elsewhere. Writing again what was read from an uncut one
- * restores the same bytes.
+ * cut, and then NZ_JOURNAL_END at a boundary and NZ_JOURNAL_SHORT elsewhere. What was written is read as it was, every bit of
+ * its words. Writing again what was read from an uncut journal restores the same bytes. A journal that is written on at its end
+ * reads as the whole records that were there and the new one.
  *
  * AFTER A POWER CUT write on at the *end of nz_journal_end. The journal's length is then the *next of nz_journal_write and no
  * more: a torn tail can be longer than the record that is written over it, and what is left of it would be taken for the next

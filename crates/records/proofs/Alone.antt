@@ -2,26 +2,27 @@
 use mathlib.Core.Path.{_≡_, refl, sym, ap, _∙_}
 use mathlib.Core.Bool.{Bool, true, false, cond, not}
 use mathlib.Core.List.{List, _++_}
-use Prim.Native.Nat.{ℕ, _+_, _-_, _*_, _≤_, _<_}
+use Prim.Native.Nat.{ℕ, _+_, _-_, _*_, _≤_, _<_, min}
 use native.Mathlib.Omega.{arith}
 use lib.Dec.{leb, ltb, eqb}
-use lib.ListN.{length, take, drop, take-append-drop, length-drop}
+use lib.ListN.{length, take, drop, take-append-drop, length-take, length-drop}
 use lib.Seq.{take-all, drop-append-seam, length-take-le}
-use borrow.Author.Tests.{leb-true, leb-false, ltb-true, ltb-false, eqb-true, le-ltb}
+use borrow.Author.Tests.{leb-true, leb-false, ltb-true, ltb-false, eqb-true, eqb-false, le-ltb}
 use Rattle.records.specs.declared.Record.{Record}
+use Rattle.records.specs.declared.Refusal.{Refusal}
 use Rattle.records.specs.declared.Refusal.the-variants.{BadLength, UnknownKind}
 use Rattle.records.specs.declared.Found.{Found}
-use Rattle.records.specs.declared.Found.the-variants.{Whole, Short, Refused}
-use Rattle.records.specs.Laws.{moved, ReadBack, WrittenIsRead, ReadStandsThere, NothingBefore, NothingBehind, ThirtyFourAtMost, ThirtyFourDecide}
+use Rattle.records.specs.declared.Found.the-variants.{Whole, End, Short, Refused}
+use Rattle.records.specs.Laws.{moved, ReadBack, WrittenIsRead, ReadStandsThere, NothingBefore, NothingBehind, NothingBehindItsKind, ThirtyFourAtMost, ThirtyFourDecide}
 use Rattle.records.specs.Numbers.{half, word, wordsAt}
 use Rattle.records.specs.Reading.{readOf}
-use Rattle.records.specs.Record.{bytesOf, countOf, recordOf, Fits}
+use Rattle.records.specs.Record.{bytesOf, countOf, recordOf, lengthOf, Fits}
 use Rattle.records.specs.Writing.{storedOver}
 use Rattle.records.proofs.Counts.{at-most}
 use Rattle.records.proofs.First.{at-most-34, read-first}
-use Rattle.records.proofs.Judged.{forward, small, left-to-judge}
+use Rattle.records.proofs.Judged.{forward, small, unknown, other, left-to-judge}
 use Rattle.records.proofs.Moved.{nothing-before}
-use Rattle.records.proofs.Patterns.{word-take, half-take, words-take}
+use Rattle.records.proofs.Patterns.{word-take, half-take, words-take, length-is}
 use Rattle.records.proofs.Stores.{to, stored-is, before}
 use Rattle.records.proofs.There.{there}
 
@@ -56,6 +57,67 @@ nothing-behind-is-read s t at to next r b got same =
     let d : drop to t ≡ bytesOf r ++ drop m (drop to t) =
     sym (take-append-drop m (drop to t)) ∙ ap (λ (x : List ℕ). x ++ drop m (drop to t)) (sym (k .0 ∙ same)) in
     read-here t (drop m (drop to t)) to r (k .1) d ∙ ap (λ (n : ℕ). Whole r (to + n)) l
+
+-- ---- a refusal, by the length and the kind
+module _ (u v : List ℕ) (same : take 6 u ≡ take 6 v) where
+  as-many : min 6 (length u) ≡ min 6 (length v)
+  as-many = sym (length-take 6 u) ∙ ap length same ∙ length-take 6 v
+
+  same-size : word u 0 ≡ word v 0
+  same-size = sym (word-take 6 u 0 (omega arith)) ∙ ap (λ (l : List ℕ). word l 0) same ∙ word-take 6 v 0 (omega arith)
+
+  same-kind : half u 4 ≡ half v 4
+  same-kind = sym (half-take 6 u 4 (omega arith)) ∙ ap (λ (l : List ℕ). half l 4) same ∙ half-take 6 v 4 (omega arith)
+
+  -- in the order of the tests: what is no refusal is none
+  refused : (why : Refusal) (place : ℕ) → readOf u 0 ≡ Refused why place → readOf v 0 ≡ Refused why 0
+  unfolding readOf
+  refused why place e =
+      go (leb (length u) 0) (ltb (length u - 0) 4) (ltb (word u 0) 2) (ltb (length u - 0) 6) (eqb n 0) (eqb (word u 0) (lengthOf n)) (ltb (length u - 0) (4 + word u 0))
+      refl refl refl refl refl refl e
+    where
+      n : ℕ
+      n = countOf (half u 4)
+
+      Answer : Bool → Bool → Bool → Bool → Bool → Bool → Bool → Found
+      Answer b₁ b₂ b₃ b₄ b₅ b₆ b₇ =
+          cond b₁ End (cond b₂ Short (cond b₃ (Refused BadLength 0) (cond b₄ Short (cond b₅ (Refused UnknownKind 0) (cond (not b₆) (Refused BadLength 0)
+          (cond b₇ Short (Whole (recordOf (half u 4) (wordsAt u 6 n)) (0 + 4 + word u 0))))))))
+
+      go : (b₁ b₂ b₃ b₄ b₅ b₆ b₇ : Bool) → leb (length u) 0 ≡ b₁ → ltb (length u - 0) 4 ≡ b₂ → ltb (word u 0) 2 ≡ b₃ → ltb (length u - 0) 6 ≡ b₄
+          → eqb n 0 ≡ b₅ → eqb (word u 0) (lengthOf n) ≡ b₆ → Answer b₁ b₂ b₃ b₄ b₅ b₆ b₇ ≡ Refused why place → readOf v 0 ≡ Refused why 0
+      go true b₂ b₃ b₄ b₅ b₆ b₇ e₁ e₂ e₃ e₄ e₅ e₆ e = cc
+      go false true b₃ b₄ b₅ b₆ b₇ e₁ e₂ e₃ e₄ e₅ e₆ e = cc
+      go false false true b₄ b₅ b₆ b₇ e₁ e₂ e₃ e₄ e₅ e₆ e =
+          let w : BadLength ≡ why = cc in
+          let h : 4 ≤ length v = omega (arith, as-many, ltb-false (length u - 0) 4 e₂) in
+          sym (small v 0 (omega arith) (omega arith) (word u 0) same-size (ltb-true (word u 0) 2 e₃)) ∙ ap (λ (x : Refusal). Refused x 0) w
+      go false false false true b₅ b₆ b₇ e₁ e₂ e₃ e₄ e₅ e₆ e = cc
+      go false false false false true b₆ b₇ e₁ e₂ e₃ e₄ e₅ e₆ e =
+          let w : UnknownKind ≡ why = cc in
+          let h : 6 ≤ length v = omega (arith, as-many, ltb-false (length u - 0) 6 e₄) in
+          sym (unknown v 0 (omega arith) (omega arith) (word u 0) same-size (ltb-false (word u 0) 2 e₃) (omega arith) (half u 4) n same-kind refl (eqb-true n 0 e₅))
+          ∙ ap (λ (x : Refusal). Refused x 0) w
+      go false false false false false false b₇ e₁ e₂ e₃ e₄ e₅ e₆ e =
+          let w : BadLength ≡ why = cc in
+          let h : 6 ≤ length v = omega (arith, as-many, ltb-false (length u - 0) 6 e₄) in
+          let d : word u 0 ≡ 2 + 4 * n → ⊥ = λ z. eqb-false (word u 0) (lengthOf n) e₆ (z ∙ sym (length-is n)) in
+          sym (other v 0 (omega arith) (omega arith) (word u 0) same-size (ltb-false (word u 0) 2 e₃) (omega arith) (half u 4) n same-kind refl (eqb-false n 0 e₅) d)
+          ∙ ap (λ (x : Refusal). Refused x 0) w
+      go false false false false false true true e₁ e₂ e₃ e₄ e₅ e₆ e = cc
+      go false false false false false true false e₁ e₂ e₃ e₄ e₅ e₆ e = cc
+
+unmoved : (d place : ℕ) (why : Refusal) (f : Found) → moved d f ≡ Refused why place → (q : ℕ) × (f ≡ Refused why q)
+unmoved d place why (Whole r next) e = (0, cc)
+unmoved d place why End e = (0, cc)
+unmoved d place why Short e = (0, cc)
+unmoved d place why (Refused w q) e = (q, cc)
+
+pub nothing-behind-its-kind : NothingBehindItsKind
+nothing-behind-its-kind s t at to place why e same =
+    let q = unmoved at place why (readOf (drop at s) 0) (sym (nothing-before s at) ∙ e) in
+    let z : to + 0 ≡ to = omega arith in
+    nothing-before t to ∙ ap (moved to) (refused (drop at s) (drop to t) same why (q .0) (q .1)) ∙ ap (Refused why) z
 
 -- ---- 34 bytes decide
 pub thirty-four-at-most : ThirtyFourAtMost

@@ -13,7 +13,7 @@ use Rattle.records.specs.declared.Ended.the-variants as E
 use Rattle.records.specs.declared.Found.{Found}
 use Rattle.records.specs.declared.Found.the-variants.{Whole, End, Short, Refused}
 use Rattle.records.specs.declared.Record.{Record}
-use Rattle.records.specs.Laws.{moved, behind, exactly, Restored, RestoredByWriting, BothAreRead, WritesOn}
+use Rattle.records.specs.Laws.{moved, behind, exactly, Restored, RestoredByWriting, GoodIsRestored, BothAreRead, WritesOn}
 use Rattle.records.specs.Numbers.{Bytes}
 use Rattle.records.specs.Reading.{readOf, Reading, none, more, readFrom, readAll, endAt, endOf}
 use Rattle.records.specs.Record.{bytesOf, journalOf, Fits, AllFit}
@@ -106,16 +106,19 @@ write-all (r ∷ rs) l at h =
     ∙ write-all rs (sets l at b) (at + length b) (omega (arith, length-sets l at b))
     ∙ sets-then b (journalOf rs) l at (at + length b) refl
 
-pub restored-by-writing : RestoredByWriting
-restored-by-writing s l b e h =
-    let rs = readAll s .records in
-    let j : journalOf rs ≡ s = all-of-it s b e in
+-- by which the first bytes of the buffer are their journal
+written-all : (rs : List Record) (s l : List ℕ) → journalOf rs ≡ s → length s ≤ length l → take (length s) (writeAll l 0 rs) ≡ s
+written-all rs s l j h =
     let n : 0 + length (journalOf rs) ≤ length l = omega (arith, ap length j) in
-    ap (take (length s))
-    (write-all rs l 0 n
-    ∙ ap (sets l 0) j
-    ∙ sets-eq s l 0 (omega arith))
-    ∙ take-at s (drop (0 + length s) l) (length s) refl
+    ap (take (length s)) (write-all rs l 0 n ∙ ap (sets l 0) j ∙ sets-eq s l 0 (omega arith)) ∙ take-at s (drop (0 + length s) l) (length s) refl
+
+pub restored-by-writing : RestoredByWriting
+restored-by-writing s l b e h = written-all (readAll s .records) s l (all-of-it s b e) h
+
+pub good-is-restored : GoodIsRestored
+good-is-restored rs l fit h =
+    let e : readAll (journalOf rs) .records ≡ rs = ap (λ (a : Reading). a .records) (uncut rs fit) in
+    ap (λ (x : List Record). take (length (journalOf rs)) (writeAll l 0 x)) e ∙ written-all rs (journalOf rs) l refl h
 
 -- ---- writing on
 -- the place where reading stopped, unless that is a refused record

@@ -69,6 +69,12 @@ abbrev pub RestoredByWriting : Type 0
 RestoredByWriting =
     (s l : List ℕ) → Bytes s → readAll s .stop ≡ End → length s ≤ length l → take (length s) (writeAll l 0 (readAll s .records)) ≡ s
 
+-- so is an uncut journal of good records
+abbrev pub GoodIsRestored : Type 0
+GoodIsRestored =
+    (rs : List Record) (l : List ℕ) → AllFit rs → length (journalOf rs) ≤ length l
+    → take (length (journalOf rs)) (writeAll l 0 (readAll (journalOf rs) .records)) ≡ journalOf rs
+
 -- ---- appending: a journal that ends at a boundary, and any bytes behind it, read as both
 abbrev pub BothAreRead : Type 0
 BothAreRead = (s t : List ℕ) → Bytes s → readAll s .stop ≡ End → readAll (s ++ t) ≡ behind (readAll s .records) (length s) (readAll t)
@@ -89,6 +95,11 @@ abbrev pub NothingBehind : Type 0
 NothingBehind =
     (s t : List ℕ) (at to next : ℕ) (r : Record) → Bytes s → readOf s at ≡ Whole r next → take (next - at) (drop at s) ≡ take (next - at) (drop to t)
     → readOf t to ≡ Whole r (to + (next - at))
+
+-- a refusal on the first six, which are the length and the kind
+abbrev pub NothingBehindItsKind : Type 0
+NothingBehindItsKind =
+    (s t : List ℕ) (at to place : ℕ) (why : Refusal) → readOf s at ≡ Refused why place → take 6 (drop at s) ≡ take 6 (drop to t) → readOf t to ≡ Refused why to
 
 -- the longest record has 34 bytes, and so many decide, however long the journal is
 abbrev pub ThirtyFourAtMost : Type 0
