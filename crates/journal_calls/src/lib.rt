@@ -2,17 +2,18 @@
 // rest is stored. A record's numbers go as words of 32 bits, a float's as its pattern, so that a NaN keeps its bits.
 ghost use mathlib.Core.Path.{_≡_};
 ghost use Rattle.records.specs.Answers.{numberOfFound, whatOfFound, kindOfFound, wordsOfFound, nextOfFound, numberOfWritten, valuesOfWritten, numberOfEnded, placeOfEnded};
-ghost use Rattle.journal_calls.specs.Calls.{firstOr};
-ghost use Rattle.journal_calls.specs.Calls.{ReadInto, WrittenFrom, EndInto};
+ghost use Rattle.journal_calls.specs.Calls.{firstOr, ReadInto, WrittenFrom, EndInto};
 use records::Ended;
 use records::Found;
 use records::Written;
 
-// What stands at an offset.
+// What is told of an offset where a whole record stands,
 pub const JOURNAL_RECORD: u32 = 0;
 
+// where there is none,
 pub const JOURNAL_END: u32 = 1;
 
+// and where one is cut off.
 pub const JOURNAL_SHORT: u32 = 2;
 
 // Stores what stands at an offset, and where to go on; and the answer's number.
