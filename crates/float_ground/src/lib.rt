@@ -4,14 +4,17 @@ ghost use mathlib.Core.Path.{_≡_};
 ghost use lib.Ieee.{binary32, binary64};
 ghost use lib.Ieee.Scale.{finite};
 ghost use Rattle.float_laws.specs.Absolute.{absOf};
-ghost use Rattle.float_laws.specs.Narrow.{narrowOf};
 ghost use Rattle.float_laws.specs.Root.{Root, rootOf};
 use parts::Width;
 
+mod narrowing;
 mod pack;
 mod parts;
 mod root;
 mod whole;
+
+pub use narrowing::Narrowed;
+pub use narrowing::narrow;
 
 // Whether x is a number: neither NaN nor an infinity.
 pub fn is_finite_f32(x: f32) -> bool
@@ -42,14 +45,6 @@ pub fn widen(x: f32) -> f64
     ensures { λ r. ⌜ r ≡ x ⌝ }
 {
     pack::float64(pack::round_to(Width::W64, parts::take_apart32(x)))
-}
-
-// x rounded once to the nearest `f32`, a tie to the even one: an infinity from halfway above the largest
-// `f32` up, a subnormal or a zero of x's sign below the normal range, NaN for NaN.
-pub fn narrow(x: f64) -> f32
-    ensures { λ r. ⌜ r ≡ narrowOf x ⌝ }
-{
-    pack::float32(pack::round_to(Width::W32, parts::take_apart64(x)))
 }
 
 // x's square root, rounded once: a zero for a zero, of the same sign, NaN for a NaN and for a number

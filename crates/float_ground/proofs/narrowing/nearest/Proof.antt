@@ -1,10 +1,10 @@
--- `float_ground::narrow` meets its contract: taken apart, rounded to the other format, put together. Assumes nothing.
+-- `float_ground::narrowing::nearest` meets its contract: taken apart, rounded to the other format, put together. Assumes nothing.
 use borrow.Author.Needs.{needs}
 use mathlib.Core.Path.{_∙_}
 use lib.Ieee.{binary64}
 use Rattle.float_ground.proofs.Converting.{tidy-apart}
-use Rattle.float_ground.proofs.narrow.Statement.{statement}
-use Rattle.float_ground.proofs.narrow.Tie as tie
+use Rattle.float_ground.proofs.narrowing.nearest.Statement.{statement}
+use Rattle.float_ground.proofs.narrowing.nearest.Tie as tie
 
 take-apart64-requires : tie.Need-take-apart64-requires
 take-apart64-requires c κs = search needs
@@ -20,5 +20,5 @@ returns c =
     let a = c .before .before in
     c .float32 .ensures ∙ c .before .round-to .ensures .is binary64 (a .before .args .x) (a .take-apart64 .ensures)
 
-pub narrow-spec : {M : Type 1} → statement M
-narrow-spec = tie.close (tie.spec take-apart64-requires round-to-requires float32-requires returns)
+pub nearest-spec : {M : Type 1} → statement M
+nearest-spec = tie.close (tie.spec take-apart64-requires round-to-requires float32-requires returns)
