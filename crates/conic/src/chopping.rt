@@ -5,6 +5,7 @@ use crate::Conic;
 use crate::Halves;
 use crate::mending;
 use crate::ruling;
+use float_ground::Narrowed;
 use point::Point;
 
 // What a chop puts between a start and an end, along one axis: the first half's control, the middle, the second half's control.
@@ -34,16 +35,27 @@ fn plain(a: f32, b: f32, c: f32, weight: f32, scale: f32) -> Line
     }
 }
 
-// The line with its middle computed again through `f64`, and narrowed once.
-fn widened(l: Line, a: f32, b: f32, c: f32, weight: f32) -> Line
-    ensures { λ r. ⌜ r ≡ withMiddle l (wideMiddle a b c weight) ⌝ }
+// The middle of a line computed through `f64`, and narrowed once.
+fn wide_middle(a: f32, b: f32, c: f32, weight: f32) -> f32
+    ensures { λ r. ⌜ r ≡ wideMiddle a b c weight ⌝ }
 {
     let w = float_ground::widen(weight);
     let scale_half = 1.0 / (1.0 + w) * 0.5;
     let sum = float_ground::widen(a) + w * 2.0 * float_ground::widen(b) + float_ground::widen(c);
+    match float_ground::narrow(sum * scale_half) {
+        Narrowed::Exact(m) => m,
+        Narrowed::Rounded(m) => m,
+        Narrowed::ToInfinity(m) => m,
+    }
+}
+
+// The line with its middle computed again.
+fn widened(l: Line, a: f32, b: f32, c: f32, weight: f32) -> Line
+    ensures { λ r. ⌜ r ≡ withMiddle l (wideMiddle a b c weight) ⌝ }
+{
     Line {
         left: l.left,
-        middle: float_ground::narrow(sum * scale_half),
+        middle: wide_middle(a, b, c, weight),
         right: l.right,
     }
 }

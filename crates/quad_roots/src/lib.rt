@@ -3,6 +3,7 @@
 ghost use mathlib.Core.Path.{_≡_};
 ghost use lib.ListN.{length};
 ghost use Rattle.quad_roots.specs.Roots as R;
+use float_ground::Narrowed;
 use float_ground::is_finite_f32;
 use float_ground::narrow;
 use float_ground::sqrt_f64;
@@ -124,11 +125,16 @@ fn discriminant(a: f32, b: f32, c: f32) -> f64
     widen(b) * widen(b) - 4.0 * widen(a) * widen(c)
 }
 
-// The discriminant's root, narrowed once it is taken.
+// The discriminant's root, narrowed once it is taken. An infinity is told by the caller's test: an infinite root counts
+// as exact.
 fn root(dr: f64) -> f32
     ensures { λ x. ⌜ x ≡ R.rootOfDiscriminant dr ⌝ }
 {
-    narrow(sqrt_f64(dr))
+    match narrow(sqrt_f64(dr)) {
+        Narrowed::Exact(r) => r,
+        Narrowed::Rounded(r) => r,
+        Narrowed::ToInfinity(r) => r,
+    }
 }
 
 // q/a and c/q are the roots, where r is the discriminant's root.
