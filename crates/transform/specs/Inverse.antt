@@ -1,10 +1,11 @@
 -- What `invert` answers. Definitions only.
-use mathlib.Core.Bool.{Bool, cond}
-use mathlib.Core.List.{List, []}
+use mathlib.Core.Bool.{Bool, not, cond, _||_}
+use mathlib.Core.List.{List, [], _∷_}
 use Prim.Native.Nat.{ℕ}
 use lib.Ieee.{Float, binary32, ofBits, neg}
 use Rattle.float_laws.specs.Formula.{_⊗_, _⊘_, _⊟_, _⊠_, _⧄_, zero32, one32, one64}
-use Rattle.float_laws.specs.Narrow.{narrowOf}
+use Rattle.float_laws.specs.Narrow.{narrowOf, kept, someLost}
+use Rattle.transform.specs.declared.Computed.{Computed}
 use Rattle.transform.specs.declared.Transform.{Transform}
 use Rattle.transform.specs.declared.invert.Inversion.{Inversion}
 use Rattle.transform.specs.declared.invert.Inversion.the-variants.{Inverted, NearlySingular, NotFinite}
@@ -12,17 +13,23 @@ use Rattle.transform.specs.declared.invert.InvDeterminant.{InvDeterminan
 use Rattle.transform.specs.declared.invert.InvDeterminant.the-variants.{Is, NearlyZero}
 use Rattle.transform.specs.Row.{rowOf, rowNumbers, translateOf}
 use Rattle.transform.specs.Kinds.{isIdentity, isScaleTranslate, hasScale, hasSkew, isFinite, nearlyZero}
+use Rattle.transform.specs.Told.{computedOf}
 
--- its number in docs/RULES.md, "Answer numbers", and its values: the inverse in the order of `from_row`
+-- its number in docs/RULES.md, "Answer numbers", its values, the inverse in the order of `from_row`, and its flag: a refusal has none
 abbrev pub numberOfInversion : Inversion → ℕ
-numberOfInversion (Inverted t) = 0
+numberOfInversion (Inverted c) = 0
 numberOfInversion NearlySingular = 6
 numberOfInversion NotFinite = 7
 
 abbrev pub valuesOfInversion : Inversion → List Float
-valuesOfInversion (Inverted t) = rowNumbers t
+valuesOfInversion (Inverted c) = rowNumbers (c .transform)
 valuesOfInversion NearlySingular = []
 valuesOfInversion NotFinite = []
+
+abbrev pub flagsOfInversion : Inversion → List Bool
+flagsOfInversion (Inverted c) = c .rounded ∷ []
+flagsOfInversion NearlySingular = []
+flagsOfInversion NotFinite = []
 
 -- ---- without skew
 unfoldable pub unskewedInverse : Transform → Transform
@@ -56,7 +63,7 @@ abbrev pub overDeterminant : Transform → Float
 overDeterminant t = one64 ⧄ determinant t
 
 unfoldable pub invDeterminant : Transform → InvDeterminant
-invDeterminant t = cond (nearlySingular t) NearlyZero (Is (overDeterminant t))
+invDeterminant t = cond (nearlySingular t) NearlyZero (Is (overDeterminant t) (not (kept (determinant t))))
 
 unfoldable pub skewedInverse : Transform → Float → Transform
 skewedInverse t inv-det =
@@ -68,15 +75,31 @@ skewedInverse t inv-det =
     (dscaleOf (dcrossOf (t .kx) (t .ty) (t .sy) (t .tx)) inv-det)
     (dscaleOf (dcrossOf (t .ky) (t .tx) (t .sx) (t .ty)) inv-det)
 
-unfoldable pub checkedOf : Transform → Inversion
-checkedOf inverse = cond (isFinite inverse) (Inverted inverse) NotFinite
+-- ---- which numbers are narrowed on the way: without skew none; with it the determinant, for its test, and the six entries
+abbrev pub skewedScaled : Transform → Float → List Float
+skewedScaled t inv-det =
+    t .sy ⊠ inv-det
+    ∷ neg (t .ky) ⊠ inv-det
+    ∷ neg (t .kx) ⊠ inv-det
+    ∷ t .sx ⊠ inv-det
+    ∷ dcrossOf (t .kx) (t .ty) (t .sy) (t .tx) ⊠ inv-det
+    ∷ dcrossOf (t .ky) (t .tx) (t .sx) (t .ty) ⊠ inv-det
+    ∷ []
 
-abbrev pub skewedInversion : Transform → InvDeterminant → Inversion
-skewedInversion t NearlyZero = NearlySingular
-skewedInversion t (Is inv-det) = checkedOf (skewedInverse t inv-det)
+unfoldable pub invertNarrows : Transform → List Float
+invertNarrows t = cond (hasSkew t) (determinant t ∷ skewedScaled t (overDeterminant t)) []
 
+-- an inverse of t, flagged exactly where one of these narrowings is not exact
+abbrev pub undone : Transform → Transform → Inversion
+undone t inverse = Inverted (computedOf inverse (someLost (invertNarrows t)))
+
+-- ---- the answer
 unfoldable pub invertOf : Transform → Inversion
-invertOf t = cond (isIdentity t) (Inverted t) (cond (isScaleTranslate t) (Inverted (unskewedInverse t)) (skewedInversion t (invDeterminant t)))
+invertOf t =
+    let inverse = skewedInverse t (overDeterminant t) in
+    cond (isIdentity t) (undone t t)
+    (cond (isScaleTranslate t) (undone t (unskewedInverse t))
+    (cond (nearlySingular t) NearlySingular (cond (isFinite inverse) (undone t inverse) NotFinite)))
 
 -- refusal 6 or 7 where it applies, else 0: what is not skewed is never refused
 unfoldable pub refusalOf : Transform → ℕ
@@ -85,3 +108,14 @@ refusalOf t =
     (cond (nearlySingular t) (numberOfInversion NearlySingular)
     (cond (isFinite (skewedInverse t (overDeterminant t))) 0 (numberOfInversion NotFinite)))
     0
+
+-- ---- the steps of a skewed inverse
+abbrev pub skewedTold : Transform → Float → Computed
+skewedTold t inv-det = computedOf (skewedInverse t inv-det) (someLost (skewedScaled t inv-det))
+
+unfoldable pub checkedOf : Transform → Bool → Inversion
+checkedOf inverse rounded = cond (isFinite inverse) (Inverted (computedOf inverse rounded)) NotFinite
+
+abbrev pub skewedInversion : Transform → InvDeterminant → Inversion
+skewedInversion t NearlyZero = NearlySingular
+skewedInversion t (Is inv-det rounded) = checkedOf (skewedInverse t inv-det) (rounded || someLost (skewedScaled t inv-det))

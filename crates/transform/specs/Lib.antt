@@ -1,5 +1,6 @@
 pub mod Row
 pub mod Kinds
+pub mod Told
 pub mod Product
 pub mod Inverse
 pub mod Mapped

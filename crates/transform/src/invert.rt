@@ -1,14 +1,18 @@
 // The inverse of a transform. Carried over from `transform.rs` of tiny-skia-path 0.12.0.
 ghost use mathlib.Core.Path.{_≡_};
-ghost use Rattle.transform.specs.Inverse.{numberOfInversion, refusalOf, invertOf, unskewedInverse, invDeterminant, skewedInverse, skewedInversion, checkedOf, dcrossOf, dscaleOf};
+ghost use Rattle.transform.specs.Inverse.{numberOfInversion, refusalOf, invertOf, unskewedInverse, invDeterminant, skewedTold, skewedInversion, checkedOf, dcrossOf};
+ghost use Rattle.transform.specs.Told.{entryOf};
+ghost use Rattle.float_laws.specs.Formula.{_⊠_};
+use super::Computed;
 use super::Transform;
+use super::entry;
+use super::entry::Entry;
 use super::scalar::is_nearly_zero_within_tolerance;
-use float_ground::narrow;
 use float_ground::widen;
 
 // What inverting answers.
 pub enum Inversion {
-    Inverted(Transform),
+    Inverted(Computed),
     // The determinant of a skewed transform is nearly zero.
     NearlySingular,
     // The inverse of a skewed transform has an entry that is not finite.
@@ -28,9 +32,9 @@ impl Inversion {
     }
 }
 
-// One over the determinant, unless the determinant is nearly zero.
+// One over the determinant, unless the determinant is nearly zero; and whether narrowing the determinant was not exact.
 enum InvDeterminant {
-    Is(f64),
+    Is(f64, bool),
     NearlyZero,
 }
 
@@ -44,10 +48,10 @@ impl Transform {
         ensures number { λ r. ⌜ numberOfInversion r ≡ refusalOf self ⌝ }
     {
         if self.is_identity() {
-            return Inversion::Inverted(self);
+            return Inversion::Inverted(entry::exactly(self));
         }
         if self.is_scale_translate() {
-            return Inversion::Inverted(unskewed(self));
+            return Inversion::Inverted(entry::exactly(unskewed(self)));
         }
         skewed(self)
     }
@@ -70,18 +74,19 @@ fn unskewed(ts: Transform) -> Transform
 fn skewed(ts: Transform) -> Inversion
     ensures { λ r. ⌜ r ≡ skewedInversion ts (invDeterminant ts) ⌝ }
 {
-    let InvDeterminant::Is(inv_det) = inv_determinant(ts) else {
+    let InvDeterminant::Is(inv_det, rounded) = inv_determinant(ts) else {
         return Inversion::NearlySingular;
     };
-    checked(compute_inv(ts, inv_det))
+    let inverse = compute_inv(ts, inv_det);
+    checked(inverse.transform, rounded | inverse.rounded)
 }
 
 // The inverse, if all of it is finite.
-fn checked(inverse: Transform) -> Inversion
-    ensures { λ r. ⌜ r ≡ checkedOf inverse ⌝ }
+fn checked(transform: Transform, rounded: bool) -> Inversion
+    ensures { λ r. ⌜ r ≡ checkedOf transform rounded ⌝ }
 {
-    if inverse.is_finite() {
-        Inversion::Inverted(inverse)
+    if transform.is_finite() {
+        Inversion::Inverted(Computed { transform, rounded })
     } else {
         Inversion::NotFinite
     }
@@ -92,18 +97,19 @@ fn inv_determinant(ts: Transform) -> InvDeterminant
     ensures { λ r. ⌜ r ≡ invDeterminant ts ⌝ }
 {
     let det = dcross(ts.sx, ts.sy, ts.kx, ts.ky);
-    if is_nearly_zero_within_tolerance(narrow(det), NEARLY_ZERO) {
+    let tested = Entry::of(det);
+    if is_nearly_zero_within_tolerance(tested.value, NEARLY_ZERO) {
         InvDeterminant::NearlyZero
     } else {
-        InvDeterminant::Is(1.0 / det)
+        InvDeterminant::Is(1.0 / det, tested.rounded)
     }
 }
 
 // The inverse of a skewed transform, each entry computed in f64 and narrowed once.
-fn compute_inv(ts: Transform, inv_det: f64) -> Transform
-    ensures { λ r. ⌜ r ≡ skewedInverse ts «inv_det» ⌝ }
+fn compute_inv(ts: Transform, inv_det: f64) -> Computed
+    ensures { λ r. ⌜ r ≡ skewedTold ts «inv_det» ⌝ }
 {
-    Transform::from_row(
+    entry::together(
         dscale(ts.sy, inv_det),
         dscale(-ts.ky, inv_det),
         dscale(-ts.kx, inv_det),
@@ -114,17 +120,17 @@ fn compute_inv(ts: Transform, inv_det: f64) -> Transform
 }
 
 // x * scale in f64, narrowed once.
-fn dscale(x: f32, scale: f64) -> f32
-    ensures { λ r. ⌜ r ≡ dscaleOf x scale ⌝ }
+fn dscale(x: f32, scale: f64) -> Entry
+    ensures { λ r. ⌜ r ≡ entryOf (x ⊠ scale) ⌝ }
 {
-    narrow(widen(x) * scale)
+    Entry::of(widen(x) * scale)
 }
 
 // (a * b - c * d) * scale in f64, narrowed once.
-fn dcross_dscale(a: f32, b: f32, c: f32, d: f32, scale: f64) -> f32
-    ensures { λ r. ⌜ r ≡ dscaleOf (dcrossOf a b c d) scale ⌝ }
+fn dcross_dscale(a: f32, b: f32, c: f32, d: f32, scale: f64) -> Entry
+    ensures { λ r. ⌜ r ≡ entryOf (dcrossOf a b c d ⊠ scale) ⌝ }
 {
-    narrow(dcross(a, b, c, d) * scale)
+    Entry::of(dcross(a, b, c, d) * scale)
 }
 
 // a * b - c * d in f64.

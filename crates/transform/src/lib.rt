@@ -3,6 +3,7 @@ ghost use mathlib.Core.Path.{_≡_};
 ghost use Rattle.transform.specs.Row.{rowOf, identityRow, translateOf, scaleOf, skewOf};
 
 mod concat;
+mod entry;
 mod invert;
 mod kinds;
 mod map;
@@ -19,6 +20,12 @@ pub struct Transform {
     pub sy: f32,
     pub tx: f32,
     pub ty: f32,
+}
+
+// A transform that was computed from others, and whether some narrowing to f32 on the way was not exact.
+pub struct Computed {
+    pub transform: Transform,
+    pub rounded: bool,
 }
 
 impl Transform {

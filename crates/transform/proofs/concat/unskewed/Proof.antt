@@ -5,4 +5,4 @@ use Rattle.transform.proofs.concat.unskewed.Tie as tie
 
 pub unskewed-spec : {M : Type 1} → statement M
 unfolding unskewedProduct
-unskewed-spec = tie.close (tie.spec (λ c κs. tt) (λ c. c .from-row .ensures))
+unskewed-spec = tie.close (tie.spec (λ c κs. tt) (λ c. rw (c .from-row .ensures)))

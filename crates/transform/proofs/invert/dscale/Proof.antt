@@ -4,4 +4,4 @@ use Rattle.transform.proofs.invert.dscale.Statement.{statement}
 use Rattle.transform.proofs.invert.dscale.Tie as tie
 
 pub dscale-spec : {M : Type 1} → statement M
-dscale-spec = tie.close (tie.spec (λ c κs. tt) (λ c κs. tt) (λ c. c .narrow .ensures ∙ rw (c .before .widen .ensures)))
+dscale-spec = tie.close (tie.spec (λ c κs. tt) (λ c κs. tt) (λ c. c .of .ensures ∙ rw (c .before .widen .ensures)))
