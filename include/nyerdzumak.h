@@ -34,7 +34,7 @@
 #include <stdbool.h>
 #include <stdint.h>
 
-#define NZ_VERSION "0.5.0"
+#define NZ_VERSION "0.6.0"
 
 /* the answers */
 #define NZ_OK 0u                  /* none below applies */
@@ -76,6 +76,12 @@
 #define NZ_KIND_TRANSFORM 2u  /* six words, each the bits of a float: sx, ky, kx, sy, tx, ty */
 #define NZ_KIND_CORRECTION 3u /* one word, the bits of an int32_t: milliseconds */
 #define NZ_MAX_RECORD 34u
+
+/* what nz_narrow_told lost: nothing, so that widening the float gives the double back, or both are NaN; what was rounded away,
+ * all of it where a zero is left; or a finite value that became an infinity */
+#define NZ_NARROW_EXACT 0u
+#define NZ_NARROW_ROUNDED 1u
+#define NZ_NARROW_TO_INFINITY 2u
 
 /* A length in numbers, or, of a journal, a length or an offset in bytes: 64 bits on every target, also where size_t has 32. */
 typedef uint64_t nz_len;
@@ -256,19 +262,24 @@ void nz_transform_from_translate(float tx, float ty, float out[6]);
 void nz_transform_from_scale(float sx, float sy, float out[6]);
 void nz_transform_from_skew(float kx, float ky, float out[6]);
 
-/* What b does and then a; what a does and then b. */
-void nz_transform_pre_concat(const float a[6], const float b[6], float out[6]);
-void nz_transform_post_concat(const float a[6], const float b[6], float out[6]);
+/* What b does and then a; what a does and then b.
+ *   *rounded is set to true exactly where some number was narrowed from double to float and its value was not kept: the six
+ * sums of products of a matrix that skews, or times one that does. Where neither skews, and where one does nothing, all is
+ * computed in float or copied, nothing is narrowed, and it is false: it says nothing of the rounding of float arithmetic. */
+void nz_transform_pre_concat(const float a[6], const float b[6], float out[6], bool *rounded);
+void nz_transform_post_concat(const float a[6], const float b[6], float out[6], bool *rounded);
 
 /* The same where one of the two scales, or moves: before m does what it does, or after. */
-void nz_transform_pre_scale(const float m[6], float sx, float sy, float out[6]);
-void nz_transform_post_scale(const float m[6], float sx, float sy, float out[6]);
-void nz_transform_pre_translate(const float m[6], float tx, float ty, float out[6]);
-void nz_transform_post_translate(const float m[6], float tx, float ty, float out[6]);
+void nz_transform_pre_scale(const float m[6], float sx, float sy, float out[6], bool *rounded);
+void nz_transform_post_scale(const float m[6], float sx, float sy, float out[6], bool *rounded);
+void nz_transform_pre_translate(const float m[6], float tx, float ty, float out[6], bool *rounded);
+void nz_transform_post_translate(const float m[6], float tx, float ty, float out[6], bool *rounded);
 
 /* The matrix that undoes m. A matrix without skew is inverted unchecked: a scale of 0 gives infinities and NaN.
- * Answers NZ_OK, NZ_NEARLY_SINGULAR or NZ_INVERSE_NOT_FINITE. */
-uint32_t nz_transform_invert(const float m[6], float out[6]);
+ *   *rounded is set as by a product: of a matrix that skews its determinant is narrowed, for its test, and then the six entries
+ * of the inverse; else nothing is. Beside a refusal it keeps its contents, as out does.
+ *   Answers NZ_OK, NZ_NEARLY_SINGULAR or NZ_INVERSE_NOT_FINITE. */
+uint32_t nz_transform_invert(const float m[6], float out[6], bool *rounded);
 
 /* Maps one point where it stands. */
 void nz_transform_map_point(const float m[6], float point[2]);
@@ -305,6 +316,10 @@ bool nz_point_is_finite(float x, float y);
 float nz_abs_f32(float x);
 double nz_widen(float x);
 float nz_narrow(double x);
+
+/* The float of nz_narrow, and in *loss one of the NZ_NARROW_ numbers: what became of the value. An infinity and a NaN that are
+ * given are kept. */
+float nz_narrow_told(double x, uint32_t *loss);
 
 /* The nearest number to the square root; of -0 it is -0, below zero NaN. */
 float nz_sqrt_f32(float x);

@@ -2,7 +2,7 @@
 // editions 2021 and 2024, from Rust 1.82 on. Link with `-L native=FOLDER -l static=nyerdzumak`. What each call does, and
 // what its caller owes it, stands in nyerdzumak.h. A lent slice is a pointer that is not null and its length in numbers, which
 // of a journal are bytes.
-pub const NZ_VERSION: &str = "0.5.0";
+pub const NZ_VERSION: &str = "0.6.0";
 
 pub const NZ_OK: u32 = 0;
 pub const NZ_LEVEL_TOO_HIGH: u32 = 1;
@@ -37,6 +37,11 @@ pub const NZ_KIND_CONIC: u32 = 1;
 pub const NZ_KIND_TRANSFORM: u32 = 2;
 pub const NZ_KIND_CORRECTION: u32 = 3;
 pub const NZ_MAX_RECORD: u32 = 34;
+
+// What narrowing lost: nothing, what was rounded away, or a finite value that became an infinity.
+pub const NZ_NARROW_EXACT: u32 = 0;
+pub const NZ_NARROW_ROUNDED: u32 = 1;
+pub const NZ_NARROW_TO_INFINITY: u32 = 2;
 
 // The room in numbers that a cut at a level up to NZ_MAX_LEVEL needs.
 pub const fn nz_cut_room(level: u32) -> u64 {
@@ -79,13 +84,13 @@ unsafe extern "C" {
     pub fn nz_transform_from_translate(tx: f32, ty: f32, out: *mut [f32; 6]);
     pub fn nz_transform_from_scale(sx: f32, sy: f32, out: *mut [f32; 6]);
     pub fn nz_transform_from_skew(kx: f32, ky: f32, out: *mut [f32; 6]);
-    pub fn nz_transform_pre_concat(a: *const [f32; 6], b: *const [f32; 6], out: *mut [f32; 6]);
-    pub fn nz_transform_post_concat(a: *const [f32; 6], b: *const [f32; 6], out: *mut [f32; 6]);
-    pub fn nz_transform_pre_scale(m: *const [f32; 6], sx: f32, sy: f32, out: *mut [f32; 6]);
-    pub fn nz_transform_post_scale(m: *const [f32; 6], sx: f32, sy: f32, out: *mut [f32; 6]);
-    pub fn nz_transform_pre_translate(m: *const [f32; 6], tx: f32, ty: f32, out: *mut [f32; 6]);
-    pub fn nz_transform_post_translate(m: *const [f32; 6], tx: f32, ty: f32, out: *mut [f32; 6]);
-    pub fn nz_transform_invert(m: *const [f32; 6], out: *mut [f32; 6]) -> u32;
+    pub fn nz_transform_pre_concat(a: *const [f32; 6], b: *const [f32; 6], out: *mut [f32; 6], rounded: *mut bool);
+    pub fn nz_transform_post_concat(a: *const [f32; 6], b: *const [f32; 6], out: *mut [f32; 6], rounded: *mut bool);
+    pub fn nz_transform_pre_scale(m: *const [f32; 6], sx: f32, sy: f32, out: *mut [f32; 6], rounded: *mut bool);
+    pub fn nz_transform_post_scale(m: *const [f32; 6], sx: f32, sy: f32, out: *mut [f32; 6], rounded: *mut bool);
+    pub fn nz_transform_pre_translate(m: *const [f32; 6], tx: f32, ty: f32, out: *mut [f32; 6], rounded: *mut bool);
+    pub fn nz_transform_post_translate(m: *const [f32; 6], tx: f32, ty: f32, out: *mut [f32; 6], rounded: *mut bool);
+    pub fn nz_transform_invert(m: *const [f32; 6], out: *mut [f32; 6], rounded: *mut bool) -> u32;
     pub fn nz_transform_map_point(m: *const [f32; 6], point: *mut [f32; 2]);
     pub fn nz_transform_map_numbers(m: *const [f32; 6], numbers: *mut f32, numbers_len: u64) -> u32;
     pub fn nz_transform_is_finite(m: *const [f32; 6]) -> bool;
@@ -105,6 +110,7 @@ unsafe extern "C" {
     pub fn nz_abs_f32(x: f32) -> f32;
     pub fn nz_widen(x: f32) -> f64;
     pub fn nz_narrow(x: f64) -> f32;
+    pub fn nz_narrow_told(x: f64, loss: *mut u32) -> f32;
     pub fn nz_sqrt_f32(x: f32) -> f32;
     pub fn nz_sqrt_f64(x: f64) -> f64;
 }

@@ -1,5 +1,6 @@
 // The figures of the float ground.
 use super::print;
+use float_ground::Narrowed;
 
 fn root(name: &[u8], x: f32) {
     print::text(name);
@@ -21,7 +22,20 @@ fn absolute(name: &[u8], x: f32) {
 
 fn narrowed(name: &[u8], x: f64) {
     print::text(name);
-    print::number(float_ground::narrow(x));
+    match float_ground::narrow(x) {
+        Narrowed::Exact(r) => {
+            print::number(r);
+            print::text(b" exact");
+        }
+        Narrowed::Rounded(r) => {
+            print::number(r);
+            print::text(b" rounded");
+        }
+        Narrowed::ToInfinity(r) => {
+            print::number(r);
+            print::text(b" gone to infinity");
+        }
+    }
     print::end();
 }
 
@@ -35,5 +49,10 @@ pub fn show() {
     narrowed(b"16777219 narrowed:", 16777219.0);
     narrowed(b"-2^-200 narrowed:", -6.223015277861142e-61);
     narrowed(b"-2^-1074 narrowed:", -5.0e-324);
+    narrowed(b"2^-149 narrowed:", 1.401298464324817e-45);
+    narrowed(b"3 * 2^-150 narrowed:", 2.1019476964872256e-45);
+    narrowed(b"2^128 narrowed:", 3.402823669209385e38);
+    narrowed(b"infinity narrowed:", 1.0 / 0.0);
+    narrowed(b"NaN narrowed:", 0.0 / 0.0);
     absolute(b"absolute value of -0:", -0.0);
 }

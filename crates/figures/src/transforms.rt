@@ -1,6 +1,7 @@
 // The figures of the transforms.
 use super::print;
 use point::Point;
+use transform::Computed;
 use transform::Inversion;
 use transform::Transform;
 
@@ -11,6 +12,20 @@ fn six(ts: Transform) {
     print::number(ts.sy);
     print::number(ts.tx);
     print::number(ts.ty);
+}
+
+// The six numbers, and whether a narrowing was not exact.
+fn told(c: Computed) {
+    six(c.transform);
+    if c.rounded {
+        print::text(b" rounded");
+    }
+}
+
+fn product(name: &[u8], a: Transform, b: Transform) {
+    print::text(name);
+    told(a.pre_concat(b));
+    print::end();
 }
 
 fn mapped(name: &[u8], ts: Transform, p: Point) {
@@ -37,7 +52,7 @@ fn inverted(name: &[u8], ts: Transform) {
     let answer = ts.invert();
     print::count(answer.number() as u64);
     if let Inversion::Inverted(inverse) = answer {
-        six(inverse);
+        told(inverse);
     }
     print::end();
 }
@@ -69,5 +84,39 @@ pub fn show() {
     inverted(
         b"from_scale(0,1) inverted:",
         Transform::from_scale(0.0, 1.0),
+    );
+    inverted(
+        b"from_row(1,1,-1,1,0,0) inverted:",
+        Transform::from_row(1.0, 1.0, -1.0, 1.0, 0.0, 0.0),
+    );
+    inverted(
+        b"from_row(1,1,-1,2,0,0) inverted:",
+        Transform::from_row(1.0, 1.0, -1.0, 2.0, 0.0, 0.0),
+    );
+    inverted(
+        b"from_row(0,2^100,2^100,0,0,0) inverted:",
+        Transform::from_row(
+            0.0,
+            1.2676506002282294e30,
+            1.2676506002282294e30,
+            0.0,
+            0.0,
+            0.0,
+        ),
+    );
+    product(
+        b"from_row(1,2,3,4,5,6) times from_row(2,1,1,2,1,1):",
+        Transform::from_row(1.0, 2.0, 3.0, 4.0, 5.0, 6.0),
+        Transform::from_row(2.0, 1.0, 1.0, 2.0, 1.0, 1.0),
+    );
+    product(
+        b"from_skew(0.1,0.2) times from_scale(0.3,0.7):",
+        Transform::from_skew(0.1, 0.2),
+        Transform::from_scale(0.3, 0.7),
+    );
+    product(
+        b"from_scale(0.1,0.2) times from_scale(0.3,0.7):",
+        Transform::from_scale(0.1, 0.2),
+        Transform::from_scale(0.3, 0.7),
     );
 }

@@ -1,1 +1,2 @@
 pub mod Later
+pub mod Told

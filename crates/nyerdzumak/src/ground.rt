@@ -5,6 +5,7 @@ ghost use lib.Ieee.Scale.{finite};
 ghost use Rattle.float_laws.specs.Absolute.{absOf};
 ghost use Rattle.float_laws.specs.Narrow.{narrowOf};
 ghost use Rattle.float_laws.specs.Root.{Root, rootOf};
+ghost use Rattle.float_ground.specs.Narrowed.{narrowedOf, lossOf};
 ghost use Rattle.point.specs.Point.{pointFrom, pointFinite};
 use point::Point;
 
@@ -40,7 +41,18 @@ pub extern "C" fn nz_widen(x: f32) -> f64
 pub extern "C" fn nz_narrow(x: f64) -> f32
     ensures { λ r. ⌜ r ≡ narrowOf x ⌝ }
 {
-    float_ground::narrow(x)
+    float_ground::narrow(x).value()
+}
+
+// The same, and what was lost: 0 for nothing, 1 where it was rounded, 2 where it is gone to infinity.
+#[no_mangle]
+pub extern "C" fn nz_narrow_told(x: f64, loss: &mut u32) -> f32
+    ensures { λ r. ⌜ r ≡ narrowOf x ⌝ }
+    ensures loss { λ _. ⌜ now (loss .exit) ≡ lossOf (narrowedOf x) ⌝ }
+{
+    let n = float_ground::narrow(x);
+    *loss = n.loss();
+    n.value()
 }
 
 #[no_mangle]

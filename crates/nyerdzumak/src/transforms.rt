@@ -1,15 +1,17 @@
 // The transforms' calls. A matrix is six lent numbers, in the order of `from_row`: sx, ky, kx, sy, tx, ty.
 ghost use mathlib.Core.Path.{_≡_};
 ghost use mathlib.Core.List.{[], _∷_};
+ghost use Rattle.float_laws.specs.Narrow.{someLost};
 ghost use Rattle.point.specs.Numbers.{flat, pointAt};
-ghost use Rattle.transform.specs.Inverse.{numberOfInversion, valuesOfInversion, refusalOf, invertOf};
+ghost use Rattle.transform.specs.Inverse.{numberOfInversion, valuesOfInversion, flagsOfInversion, refusalOf, invertOf};
 ghost use Rattle.transform.specs.Mapped.{mapPoint};
-ghost use Rattle.transform.specs.Product.{concatOf};
+ghost use Rattle.transform.specs.Product.{concatOf, concatNarrows};
 ghost use Rattle.transform.specs.Row.{rowNumbers, identityRow, translateOf, scaleOf, skewOf};
 ghost use Rattle.mapping.specs.Numbers.{mappingNumber, mappedNumbers};
 ghost use Rattle.nyerdzumak.specs.Lent.{matrixOf};
-ghost use Rattle.nyerdzumak.specs.Given.{filledOr};
+ghost use Rattle.nyerdzumak.specs.Given.{firstOr, filledOr};
 use point::Point;
+use transform::Computed;
 use transform::Inversion;
 use transform::Transform;
 
@@ -24,6 +26,15 @@ fn give(t: Transform, out: &mut [f32; 6])
     ensures { λ _. ⌜ now (out .exit) ≡ rowNumbers t ⌝ }
 {
     *out = [t.sx, t.ky, t.kx, t.sy, t.tx, t.ty];
+}
+
+// Stores a matrix that was computed, and its flag.
+fn give_told(c: Computed, out: &mut [f32; 6], rounded: &mut bool)
+    ensures { λ _. ⌜ now (out .exit) ≡ rowNumbers (c .transform) ⌝ }
+    ensures rounded { λ _. ⌜ now (rounded .exit) ≡ c .rounded ⌝ }
+{
+    give(c.transform, out);
+    *rounded = c.rounded;
 }
 
 // The matrix that moves nothing.
@@ -60,61 +71,102 @@ pub extern "C" fn nz_transform_from_skew(kx: f32, ky: f32, out: &mut [f32; 6])
 
 // What b does, and then a.
 #[no_mangle]
-pub extern "C" fn nz_transform_pre_concat(a: &[f32; 6], b: &[f32; 6], out: &mut [f32; 6])
+pub extern "C" fn nz_transform_pre_concat(
+    a: &[f32; 6],
+    b: &[f32; 6],
+    out: &mut [f32; 6],
+    rounded: &mut bool,
+)
     ensures { λ _. ⌜ now (out .exit) ≡ rowNumbers (concatOf (matrixOf (now (a .entry))) (matrixOf (now (b .entry)))) ⌝ }
+    ensures rounded { λ _. ⌜ now (rounded .exit) ≡ someLost (concatNarrows (matrixOf (now (a .entry))) (matrixOf (now (b .entry)))) ⌝ }
 {
-    give(matrix(a).pre_concat(matrix(b)), out);
+    give_told(matrix(a).pre_concat(matrix(b)), out, rounded);
 }
 
 // What a does, and then b.
 #[no_mangle]
-pub extern "C" fn nz_transform_post_concat(a: &[f32; 6], b: &[f32; 6], out: &mut [f32; 6])
+pub extern "C" fn nz_transform_post_concat(
+    a: &[f32; 6],
+    b: &[f32; 6],
+    out: &mut [f32; 6],
+    rounded: &mut bool,
+)
     ensures { λ _. ⌜ now (out .exit) ≡ rowNumbers (concatOf (matrixOf (now (b .entry))) (matrixOf (now (a .entry)))) ⌝ }
+    ensures rounded { λ _. ⌜ now (rounded .exit) ≡ someLost (concatNarrows (matrixOf (now (b .entry))) (matrixOf (now (a .entry)))) ⌝ }
 {
-    give(matrix(a).post_concat(matrix(b)), out);
+    give_told(matrix(a).post_concat(matrix(b)), out, rounded);
 }
 
 // Scales, and then does what m does.
 #[no_mangle]
-pub extern "C" fn nz_transform_pre_scale(m: &[f32; 6], sx: f32, sy: f32, out: &mut [f32; 6])
+pub extern "C" fn nz_transform_pre_scale(
+    m: &[f32; 6],
+    sx: f32,
+    sy: f32,
+    out: &mut [f32; 6],
+    rounded: &mut bool,
+)
     ensures { λ _. ⌜ now (out .exit) ≡ rowNumbers (concatOf (matrixOf (now (m .entry))) (scaleOf sx sy)) ⌝ }
+    ensures rounded { λ _. ⌜ now (rounded .exit) ≡ someLost (concatNarrows (matrixOf (now (m .entry))) (scaleOf sx sy)) ⌝ }
 {
-    give(matrix(m).pre_scale(sx, sy), out);
+    give_told(matrix(m).pre_scale(sx, sy), out, rounded);
 }
 
 // Does what m does, and then scales.
 #[no_mangle]
-pub extern "C" fn nz_transform_post_scale(m: &[f32; 6], sx: f32, sy: f32, out: &mut [f32; 6])
+pub extern "C" fn nz_transform_post_scale(
+    m: &[f32; 6],
+    sx: f32,
+    sy: f32,
+    out: &mut [f32; 6],
+    rounded: &mut bool,
+)
     ensures { λ _. ⌜ now (out .exit) ≡ rowNumbers (concatOf (scaleOf sx sy) (matrixOf (now (m .entry)))) ⌝ }
+    ensures rounded { λ _. ⌜ now (rounded .exit) ≡ someLost (concatNarrows (scaleOf sx sy) (matrixOf (now (m .entry)))) ⌝ }
 {
-    give(matrix(m).post_scale(sx, sy), out);
+    give_told(matrix(m).post_scale(sx, sy), out, rounded);
 }
 
 // Moves, and then does what m does.
 #[no_mangle]
-pub extern "C" fn nz_transform_pre_translate(m: &[f32; 6], tx: f32, ty: f32, out: &mut [f32; 6])
+pub extern "C" fn nz_transform_pre_translate(
+    m: &[f32; 6],
+    tx: f32,
+    ty: f32,
+    out: &mut [f32; 6],
+    rounded: &mut bool,
+)
     ensures { λ _. ⌜ now (out .exit) ≡ rowNumbers (concatOf (matrixOf (now (m .entry))) (translateOf tx ty)) ⌝ }
+    ensures rounded { λ _. ⌜ now (rounded .exit) ≡ someLost (concatNarrows (matrixOf (now (m .entry))) (translateOf tx ty)) ⌝ }
 {
-    give(matrix(m).pre_translate(tx, ty), out);
+    give_told(matrix(m).pre_translate(tx, ty), out, rounded);
 }
 
 // Does what m does, and then moves.
 #[no_mangle]
-pub extern "C" fn nz_transform_post_translate(m: &[f32; 6], tx: f32, ty: f32, out: &mut [f32; 6])
+pub extern "C" fn nz_transform_post_translate(
+    m: &[f32; 6],
+    tx: f32,
+    ty: f32,
+    out: &mut [f32; 6],
+    rounded: &mut bool,
+)
     ensures { λ _. ⌜ now (out .exit) ≡ rowNumbers (concatOf (translateOf tx ty) (matrixOf (now (m .entry)))) ⌝ }
+    ensures rounded { λ _. ⌜ now (rounded .exit) ≡ someLost (concatNarrows (translateOf tx ty) (matrixOf (now (m .entry)))) ⌝ }
 {
-    give(matrix(m).post_translate(tx, ty), out);
+    give_told(matrix(m).post_translate(tx, ty), out, rounded);
 }
 
-// Stores an inverse, if there is one; and the answer's number.
-fn give_inverse(answer: Inversion, out: &mut [f32; 6]) -> u32
+// Stores an inverse and its flag, if there is one; and the answer's number.
+fn give_inverse(answer: Inversion, out: &mut [f32; 6], rounded: &mut bool) -> u32
     ensures { λ r. ⌜ r ≡ numberOfInversion answer ⌝ }
     ensures out { λ _. ⌜ now (out .exit) ≡ filledOr (now (out .entry)) (valuesOfInversion answer) ⌝ }
+    ensures rounded { λ _. ⌜ now (rounded .exit) ≡ firstOr (now (rounded .entry)) (flagsOfInversion answer) ⌝ }
 {
     let number = answer.number();
     match answer {
-        Inversion::Inverted(t) => {
-            give(t, out);
+        Inversion::Inverted(c) => {
+            give_told(c, out, rounded);
             number
         }
         Inversion::NearlySingular => number,
@@ -124,11 +176,12 @@ fn give_inverse(answer: Inversion, out: &mut [f32; 6]) -> u32
 
 // The matrix that undoes m.
 #[no_mangle]
-pub extern "C" fn nz_transform_invert(m: &[f32; 6], out: &mut [f32; 6]) -> u32
+pub extern "C" fn nz_transform_invert(m: &[f32; 6], out: &mut [f32; 6], rounded: &mut bool) -> u32
     ensures { λ r. ⌜ r ≡ refusalOf (matrixOf (now (m .entry))) ⌝ }
     ensures out { λ _. ⌜ now (out .exit) ≡ filledOr (now (out .entry)) (valuesOfInversion (invertOf (matrixOf (now (m .entry))))) ⌝ }
+    ensures rounded { λ _. ⌜ now (rounded .exit) ≡ firstOr (now (rounded .entry)) (flagsOfInversion (invertOf (matrixOf (now (m .entry))))) ⌝ }
 {
-    give_inverse(matrix(m).invert(), out)
+    give_inverse(matrix(m).invert(), out, rounded)
 }
 
 // Maps one point, x and y, where it stands.

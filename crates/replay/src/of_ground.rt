@@ -15,7 +15,9 @@ fn of_float(x: f32) -> Sum {
 fn of_double(x: f64) -> Sum {
     let a = sum::flag(sum::START, ground::nz_is_finite_f64(x));
     let b = sum::float(a, ground::nz_narrow(x));
-    sum::double(b, ground::nz_sqrt_f64(x))
+    let mut loss = 77;
+    let c = sum::float(b, ground::nz_narrow_told(x, &mut loss));
+    sum::double(sum::word(c, loss), ground::nz_sqrt_f64(x))
 }
 
 fn tests(a: f32, b: f32, c: f32) -> Sum {

@@ -31,40 +31,73 @@ fn all_kinds(m: &[f32; 6]) -> Sum {
     sum::both(s, &scale)
 }
 
-// Call j of those that give a matrix.
-fn matrix(j: u32, m: &[f32; 6], b: &[f32; 6], x: f32, y: f32, out: &mut [f32; 6]) {
+// Call j of those that make a matrix.
+fn made(j: u32, x: f32, y: f32, out: &mut [f32; 6]) {
     match j {
         0 => transforms::nz_transform_identity(out),
         1 => transforms::nz_transform_from_translate(x, y, out),
         2 => transforms::nz_transform_from_scale(x, y, out),
-        3 => transforms::nz_transform_from_skew(x, y, out),
-        4 => transforms::nz_transform_pre_concat(m, b, out),
-        5 => transforms::nz_transform_post_concat(m, b, out),
-        6 => transforms::nz_transform_pre_scale(m, x, y, out),
-        7 => transforms::nz_transform_post_scale(m, x, y, out),
-        8 => transforms::nz_transform_pre_translate(m, x, y, out),
-        _ => transforms::nz_transform_post_translate(m, x, y, out),
+        _ => transforms::nz_transform_from_skew(x, y, out),
     }
 }
 
-fn row(s: Sum, j: u32, m: &[f32; 6], b: &[f32; 6], x: f32, y: f32) -> Sum {
+// Call j of those that give a product.
+fn product(
+    j: u32,
+    m: &[f32; 6],
+    b: &[f32; 6],
+    x: f32,
+    y: f32,
+    out: &mut [f32; 6],
+    rounded: &mut bool,
+) {
+    match j {
+        0 => transforms::nz_transform_pre_concat(m, b, out, rounded),
+        1 => transforms::nz_transform_post_concat(m, b, out, rounded),
+        2 => transforms::nz_transform_pre_scale(m, x, y, out, rounded),
+        3 => transforms::nz_transform_post_scale(m, x, y, out, rounded),
+        4 => transforms::nz_transform_pre_translate(m, x, y, out, rounded),
+        _ => transforms::nz_transform_post_translate(m, x, y, out, rounded),
+    }
+}
+
+fn made_row(s: Sum, j: u32, x: f32, y: f32) -> Sum {
     let mut out = [7000.0f32, 7001.0, 7002.0, 7003.0, 7004.0, 7005.0];
-    matrix(j, m, b, x, y, &mut out);
+    made(j, x, y, &mut out);
     sum::six(s, &out)
+}
+
+// The six numbers, and then the flag, which stood at true.
+fn product_row(s: Sum, j: u32, m: &[f32; 6], b: &[f32; 6], x: f32, y: f32) -> Sum {
+    let mut out = [7000.0f32, 7001.0, 7002.0, 7003.0, 7004.0, 7005.0];
+    let mut rounded = true;
+    product(j, m, b, x, y, &mut out, &mut rounded);
+    sum::flag(sum::six(s, &out), rounded)
 }
 
 fn inverse(m: &[f32; 6]) -> Sum {
     let mut out = [7000.0f32, 7001.0, 7002.0, 7003.0, 7004.0, 7005.0];
-    let number = transforms::nz_transform_invert(m, &mut out);
-    sum::word(sum::six(sum::START, &out), number)
+    let mut rounded = true;
+    let number = transforms::nz_transform_invert(m, &mut out, &mut rounded);
+    sum::word(sum::flag(sum::six(sum::START, &out), rounded), number)
 }
 
-// What the calls from one on and before another give.
-fn rows(from: u32, to: u32, m: &[f32; 6], b: &[f32; 6], x: f32, y: f32) -> Sum {
+fn all_made(x: f32, y: f32) -> Sum {
+    let mut s = sum::START;
+    let mut j = 0;
+    while j < 4 {
+        s = made_row(s, j, x, y);
+        j += 1;
+    }
+    s
+}
+
+// What the products from one on and before another give.
+fn products(from: u32, to: u32, m: &[f32; 6], b: &[f32; 6], x: f32, y: f32) -> Sum {
     let mut s = sum::START;
     let mut j = from;
     while j < to {
-        s = row(s, j, m, b, x, y);
+        s = product_row(s, j, m, b, x, y);
         j += 1;
     }
     s
@@ -105,9 +138,9 @@ fn on_matrices(k: u32, r: &[u8; 80], m: &[f32; 6], b: &[f32; 6]) -> Sum {
     let y = record::float_at(r, 8);
     match k {
         20 => all_kinds(m),
-        21 => rows(0, 4, m, b, record::float_at(r, 1), record::float_at(r, 2)),
-        22 => rows(4, 6, m, b, x, y),
-        23 => rows(6, 10, m, b, x, y),
+        21 => all_made(record::float_at(r, 1), record::float_at(r, 2)),
+        22 => products(0, 2, m, b, x, y),
+        23 => products(2, 6, m, b, x, y),
         24 => inverse(m),
         _ => map_point(m, x, y),
     }

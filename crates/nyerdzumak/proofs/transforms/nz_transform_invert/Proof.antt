@@ -5,8 +5,10 @@ use Rattle.nyerdzumak.proofs.transforms.nz_transform_invert.Tie as tie
 
 returns : tie.Need-returns
 returns c =
-    let found = c .before .before .invert .ensures in
-    rw (← c .before .before .before .matrix .ensures) (c .give-inverse .ensures .0 ∙ found .1, rw (← found .0) (c .give-inverse .ensures .1))
+    let i = c .before .before .before in
+    let found = i .invert .ensures in
+    let given = c .give-inverse .ensures in
+    rw (← i .before .matrix .ensures) (given .0 ∙ found .1, rw (← found .0) (given .1))
 
 pub nz-transform-invert-spec : {M : Type 1} → statement M
 nz-transform-invert-spec = tie.close (tie.spec (λ c κs. tt) (λ c κs. tt) (λ c κs. tt) returns)
