@@ -1,6 +1,6 @@
-// The clock: cutting, mapping, roots and narrowing beside the original, and dates and journals beside plain Rust, in one process:
-// medians of 401 batches, in nanoseconds a call, or of journals in bytes a second. Cuts are timed with the buffer cleared before
-// each call, on both sides, and not cleared; and what a point costs at level 4 and at level 6, in turns.
+// The clock: cutting, mapping, products, inverses, roots and narrowing beside the original, and dates and journals beside plain
+// Rust, in one process: medians of 401 batches, in nanoseconds a call, or of journals in bytes a second. Cuts are timed with the
+// buffer cleared before each call, on both sides, and not cleared; and what a point costs at level 4 and at level 6, in turns.
 mod dates;
 mod journal;
 
@@ -53,15 +53,20 @@ enum Kind {
     Corrected,
 }
 
-// All of them are in order along both axes.
-fn conics(kind: Kind) -> Inputs {
+// Whole numbers below 2^24, the same each time.
+fn random() -> impl FnMut() -> f32 {
     let mut s = 88172645463325252u64;
-    let mut next = move || {
+    move || {
         s ^= s << 13;
         s ^= s >> 7;
         s ^= s << 17;
         (s >> 40) as f32
-    };
+    }
+}
+
+// All of them are in order along both axes.
+fn conics(kind: Kind) -> Inputs {
+    let mut next = random();
     (0..CONICS)
         .map(|_| {
             let scale = if kind == Kind::Overflowing { 1.0e30 } else { 1.0 };
@@ -154,6 +159,50 @@ fn mapping() {
     row("map 1,000 points, skewed, in place", ours, theirs);
 }
 
+// Two matrices for each call, of numbers from -8 to 8, which all skew.
+fn matrices() -> Vec<[[f32; 6]; 2]> {
+    let mut next = random();
+    let mut matrix = || std::array::from_fn(|_| (next() - 8388608.0) / 1048576.0);
+    (0..CONICS).map(|_| [matrix(), matrix()]).collect()
+}
+
+// A skewed product and a skewed inverse, in turns, and each through a pointer of its own. The original has no flag.
+fn products() {
+    let given = matrices();
+    let transform = |m: &[f32; 6]| Transform::from_row(m[0], m[1], m[2], m[3], m[4], m[5]);
+    let pairs: Vec<[Transform; 2]> = given.iter().map(|[a, b]| [transform(a), transform(b)]).collect();
+    assert!(pairs.iter().flatten().all(|t| t.has_skew() && t.invert().is_some()), "only what skews and has an inverse is timed");
+    let (mut out, mut rounded) = ([0.0f32; 6], false);
+    let concat: unsafe extern "C" fn(_, _, _, _) = black_box(nz_transform_pre_concat);
+    let their_concat: fn(&Transform, Transform) -> Transform = black_box(Transform::pre_concat);
+    let [ours, theirs] = medians(
+        CONICS,
+        || given.iter().for_each(|[a, b]| unsafe { concat(a, b, black_box(&mut out), black_box(&mut rounded)) }),
+        || pairs.iter().for_each(|[a, b]| _ = black_box(their_concat(a, *b))),
+    );
+    row("pre_concat, skewed, and its flag", ours, theirs);
+    let invert: unsafe extern "C" fn(_, _, _) -> u32 = black_box(nz_transform_invert);
+    let their_invert: fn(&Transform) -> Option<Transform> = black_box(Transform::invert);
+    let [ours, theirs] = medians(
+        CONICS,
+        || given.iter().for_each(|[a, _]| _ = black_box(unsafe { invert(a, black_box(&mut out), black_box(&mut rounded)) })),
+        || pairs.iter().for_each(|[a, _]| _ = black_box(their_invert(a))),
+    );
+    row("invert, skewed, and its flag", ours, theirs);
+}
+
+// What the library's call tells, in plain Rust.
+fn told(x: f64) -> (f32, u32) {
+    let r = x as f32;
+    let kept = x.is_nan() || r as f64 == x;
+    (r, if kept { NZ_NARROW_EXACT } else if r.is_infinite() { NZ_NARROW_TO_INFINITY } else { NZ_NARROW_ROUNDED })
+}
+
+fn library_told(x: f64) -> (f32, u32) {
+    let mut loss = 0;
+    (unsafe { nz_narrow_told(x, &mut loss) }, loss)
+}
+
 // Independent calls, each through a pointer of its own, so that neither side is inlined.
 fn ground() {
     const CALLS: usize = 1024;
@@ -170,6 +219,7 @@ fn ground() {
     row("sqrt_f32", timed(&singles, |x| unsafe { nz_sqrt_f32(x) }), timed(&singles, |x| x.sqrt()));
     row("sqrt_f64", timed(&doubles, |x| unsafe { nz_sqrt_f64(x) }), timed(&doubles, |x| x.sqrt()));
     row("narrow", timed(&doubles, |x| unsafe { nz_narrow(x) }), timed(&doubles, |x| x as f32));
+    beside("narrow_told", timed(&doubles, library_told), "plain Rust", timed(&doubles, told));
     row("widen", timed(&singles, |x| unsafe { nz_widen(x) }), timed(&singles, |x| x as f64));
 }
 
@@ -183,6 +233,7 @@ fn main() {
     }
     points();
     mapping();
+    products();
     ground();
     dates::all();
     journal::all();

@@ -1,5 +1,5 @@
 // Dates strokes across a clock correction: a bridge between two readings, its date table, the dates, and what refusals look
-// like; then the points of a cut, and a matrix.
+// like; then the points of a cut, a matrix, and what two pads' matrices are undone by.
 #include <inttypes.h>
 #include <stdio.h>
 
@@ -59,6 +59,16 @@ static bool promised(const float *bridge) {
     return bridge[0] <= bridge[4] && nz_between_exact(bridge[0], bridge[2], bridge[4]) && nz_between_exact(bridge[1], bridge[3], bridge[5]);
 }
 
+// What undoes a pad's matrix, and whether it was rounded, for the log that support reads. Where it was, a number lost digits as
+// it became a float, and a stroke that is mapped back can miss its place by a last digit: rounding, and no fault of the pad.
+static bool undo(const char *pad, const float m[6]) {
+    float u[6];
+    bool rounded;
+    if (nz_transform_invert(m, u, &rounded) != NZ_OK) return false; // then neither has a value
+    printf("%s is undone by %.3f, %.3f, %.3f, %.3f, %.3f, %.3f, rounded %d\n", pad, u[0], u[1], u[2], u[3], u[4], u[5], rounded);
+    return true;
+}
+
 int main(void) {
     // three readings, each as it was recorded and as it is corrected: the start of the gap, a point on the way, and its end
     const uint64_t readings[6] = {start + 1000, start + 1000, start + 1500, start + 1100, start + 2000, start + 2400};
@@ -90,7 +100,10 @@ int main(void) {
     float m[6] = {2, 0, 0, 4, 6, 8}, p[2] = {1, 1};
     nz_transform_map_point(m, p);
     printf("(1, 1) maps to (%g, %g)\n", p[0], p[1]);
-    answer = nz_transform_invert(m, m); // in place
-    printf("which is undone by %g, %g, %g, %g, %g, %g, answer %u\n", m[0], m[1], m[2], m[3], m[4], m[5], answer);
-    return 0;
+    bool rounded = true;
+    answer = nz_transform_invert(m, m, &rounded); // in place
+    printf("which is undone by %g, %g, %g, %g, %g, %g, answer %u, rounded %d\n", m[0], m[1], m[2], m[3], m[4], m[5], answer, rounded);
+    // halves fit a float, and thirds do not
+    const float halves[6] = {2, 1, 2, 2, 10, 30}, thirds[6] = {2, 1, 1, 2, 10, 30};
+    return undo("a skewed pad", halves) && undo("another", thirds) ? 0 : 1;
 }

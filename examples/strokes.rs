@@ -71,6 +71,15 @@ fn promised(b: &[f32; 6]) -> bool {
     b.iter().all(|&x| unsafe { nz_is_finite_f32(x) }) && b[0] <= b[4] && between(0) && between(1)
 }
 
+// What undoes a pad's matrix, and whether it was rounded, for the log that support reads. Where it was, a number lost digits as
+// it became a float, and a stroke that is mapped back can miss its place by a last digit: rounding, and no fault of the pad.
+fn undo(pad: &str, m: [f32; 6]) {
+    let (mut u, mut rounded) = ([0.0; 6], false);
+    assert!(unsafe { nz_transform_invert(&m, &mut u, &mut rounded) } == NZ_OK); // else neither has a value
+    let [a, b, c, d, e, f] = u;
+    println!("{pad} is undone by {a:.3}, {b:.3}, {c:.3}, {d:.3}, {e:.3}, {f:.3}, rounded {}", rounded as u8);
+}
+
 fn main() {
     // three readings, each as it was recorded and as it is corrected: the start of the gap, a point on the way, and its end
     let bridge = [1000, 1000, 1500, 1100, 2000, 2400].map(|t| since(START + t) as f32);
@@ -101,8 +110,11 @@ fn main() {
     let (mut m, mut p) = ([2.0, 0.0, 0.0, 4.0, 6.0, 8.0], [1.0, 1.0]);
     unsafe { nz_transform_map_point(&m, &mut p) };
     println!("(1, 1) maps to ({}, {})", p[0], p[1]);
-    let matrix: *mut [f32; 6] = &mut m;
-    let answer = unsafe { nz_transform_invert(matrix, matrix) }; // in place
+    let (matrix, mut rounded): (*mut [f32; 6], bool) = (&mut m, true);
+    let answer = unsafe { nz_transform_invert(matrix, matrix, &mut rounded) }; // in place
     let [a, b, c, d, e, f] = m;
-    println!("which is undone by {a}, {b}, {c}, {d}, {e}, {f}, answer {answer}");
+    println!("which is undone by {a}, {b}, {c}, {d}, {e}, {f}, answer {answer}, rounded {}", rounded as u8);
+    // halves fit a float, and thirds do not
+    undo("a skewed pad", [2.0, 1.0, 2.0, 2.0, 10.0, 30.0]);
+    undo("another", [2.0, 1.0, 1.0, 2.0, 10.0, 30.0]);
 }

@@ -1,5 +1,6 @@
 // Every exported call beside the original's, but for dates, which it does not have: how an input is made, what the library
 // gives, and what it has to give. Where the original would panic or has no such input, the numbers of docs/RULES.md stand here.
+use crate::flags;
 use crate::inputs::Inputs;
 use crate::of_conics::*;
 use crate::of_curves::*;
@@ -65,13 +66,17 @@ pub const CALLS: &[Call] = &[
         o.double(c.f[0] as f64);
         o.computed(&[c.f[0].sqrt()]);
     } },
-    Call { name: "is_finite_f64, narrow, sqrt_f64", share: 4, listed: 1500, make: one_double, ours: |c, o| unsafe {
+    Call { name: "is_finite_f64, narrow, narrow_told, sqrt_f64", share: 4, listed: 1500, make: one_double, ours: |c, o| unsafe {
         o.flag(nz_is_finite_f64(c.x));
         o.computed(&[nz_narrow(c.x)]);
+        let mut loss = 77;
+        o.computed(&[nz_narrow_told(c.x, &mut loss)]);
+        o.number(loss);
         o.double(nz_sqrt_f64(c.x));
     }, theirs: |c, o| {
         o.flag(c.x.is_finite());
-        o.computed(&[c.x as f32]);
+        o.computed(&[c.x as f32, c.x as f32]);
+        o.number(flags::loss(c.x));
         o.double(c.x.sqrt());
     } },
     Call { name: "point_is_finite, between_product, between_exact", share: 4, listed: 1500, make: values, ours: |c, o| unsafe {
@@ -164,40 +169,41 @@ pub const CALLS: &[Call] = &[
         row(o, Transform::from_skew(c.f[0], c.f[1]), true);
     } },
     Call { name: "transform: pre_concat and post_concat", share: 5, listed: 5500, make: matrices, ours: |c, o| unsafe {
-        void(o, first(c), |a, m| nz_transform_pre_concat(a, second(c), m));
-        void(o, first(c), |a, m| nz_transform_post_concat(a, second(c), m));
+        void(o, first(c), |a, m, rounded| nz_transform_pre_concat(a, second(c), m, rounded));
+        void(o, first(c), |a, m, rounded| nz_transform_post_concat(a, second(c), m, rounded));
     }, theirs: |c, o| {
         let (a, b) = (matrix(&c.f), matrix(&c.f[6..]));
-        let copied = a.is_identity() || b.is_identity();
-        row(o, a.pre_concat(b), copied);
-        row(o, a.post_concat(b), copied);
+        product(o, a.pre_concat(b), a, b);
+        product(o, a.post_concat(b), b, a);
     } },
     Call { name: "transform: pre_scale, post_scale, pre_translate, post_translate", share: 4, listed: 1500, make: matrices, ours: |c, o| unsafe {
         let (x, y) = (c.f[6], c.f[7]);
-        void(o, first(c), |a, m| nz_transform_pre_scale(a, x, y, m));
-        void(o, first(c), |a, m| nz_transform_post_scale(a, x, y, m));
-        void(o, first(c), |a, m| nz_transform_pre_translate(a, x, y, m));
-        void(o, first(c), |a, m| nz_transform_post_translate(a, x, y, m));
+        void(o, first(c), |a, m, rounded| nz_transform_pre_scale(a, x, y, m, rounded));
+        void(o, first(c), |a, m, rounded| nz_transform_post_scale(a, x, y, m, rounded));
+        void(o, first(c), |a, m, rounded| nz_transform_pre_translate(a, x, y, m, rounded));
+        void(o, first(c), |a, m, rounded| nz_transform_post_translate(a, x, y, m, rounded));
     }, theirs: |c, o| {
         let (t, x, y) = (matrix(&c.f), c.f[6], c.f[7]);
-        let (scale, translate) = (Transform::from_scale(x, y).is_identity(), Transform::from_translate(x, y).is_identity());
-        row(o, t.pre_scale(x, y), t.is_identity() || scale);
-        row(o, t.post_scale(x, y), t.is_identity() || scale);
-        row(o, t.pre_translate(x, y), t.is_identity() || translate);
-        row(o, t.post_translate(x, y), t.is_identity() || translate);
+        let (scale, translate) = (Transform::from_scale(x, y), Transform::from_translate(x, y));
+        product(o, t.pre_scale(x, y), t, scale);
+        product(o, t.post_scale(x, y), scale, t);
+        product(o, t.pre_translate(x, y), t, translate);
+        product(o, t.post_translate(x, y), translate, t);
     } },
     Call { name: "transform: invert", share: 5, listed: 5500, make: matrices, ours: |c, o| {
-        let number = changed(o, first(c), |a, m| unsafe { nz_transform_invert(a, m) });
+        let number = changed(o, first(c), |a, m, rounded| unsafe { nz_transform_invert(a, m, rounded) });
         o.number(number);
     }, theirs: |c, o| {
         let t = matrix(&c.f);
         match t.invert() {
             Some(r) => {
                 row(o, r, t.is_identity());
+                o.flag(flags::some_lost(flags::of_inverse(&t)));
                 o.number(0);
             }
             None => {
                 o.untouched(0, 6);
+                o.flag(FLAG_STOOD);
                 o.number(if original::transform::inv_determinant(&t).is_none() { 6 } else { 7 });
             }
         }

@@ -1,9 +1,10 @@
 // Every exported call but those for dates, which dates.rs has, beside the original, in one process, on inputs from a seed. See
-// calls.rs for what is compared, outputs.rs for what counts as the same, promise.rs for what is tested beside it, and
-// levels.rs for what is counted. Some of the modules serve the list alone.
+// calls.rs for what is compared, flags.rs for what the original does not say of its rounding, outputs.rs for what counts as the
+// same, promise.rs for what is tested beside it, and levels.rs for what is counted. Some of the modules serve the list alone.
 #![allow(dead_code)]
 
 mod calls;
+mod flags;
 mod inputs;
 mod levels;
 mod of_conics;

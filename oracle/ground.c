@@ -1,11 +1,15 @@
 // The float ground beside the processor: every call on random patterns, bit for bit, a zero's sign too, but for a NaN's bits.
-// Arguments: how many patterns for each call, and the seed. The last line is 'N inputs, M differences'.
+// Arguments: how many patterns for each call, and the seed. The last line is 'N inputs, M differences'; the exit status is 1 if M
+// is not 0, or of many patterns none was exact, rounded or gone to infinity.
 #include <math.h>
 #include <stdio.h>
 #include <stdlib.h>
 #include <string.h>
 
 #include "../include/nyerdzumak.h"
+
+// of fewer patterns nothing is asked
+enum { FEW = 100000 };
 
 static uint64_t state;
 
@@ -78,6 +82,22 @@ static void same64(const char *call, uint64_t input, double ours, double theirs)
     if (bits64(ours) != bits64(theirs) && !(isnan(ours) && isnan(theirs))) differ(call, input, bits64(ours), bits64(theirs));
 }
 
+// What narrowing loses: nothing where the value comes back, or is NaN; else it is rounded, or a finite value becomes infinite.
+static uint32_t loss_of(double y) {
+    if (isnan(y) || (double)(float)y == y) return NZ_NARROW_EXACT;
+    return isinf((float)y) ? NZ_NARROW_TO_INFINITY : NZ_NARROW_ROUNDED;
+}
+
+static uint64_t losses[3]; // how often each was met
+
+static void told(uint64_t input) {
+    volatile double y = f64(input);
+    uint32_t loss = 77, theirs = loss_of(y);
+    same32("narrow_told", input, nz_narrow_told(y, &loss), (float)y);
+    if (loss != theirs) differ("narrow_told, loss", input, loss, theirs);
+    losses[theirs]++;
+}
+
 int main(int argc, char **argv) {
     uint64_t count = argc > 1 ? strtoull(argv[1], 0, 10) : 50000000;
     state = (argc > 2 ? strtoull(argv[2], 0, 10) : 1) * 0x9e3779b97f4a7c15 + 1;
@@ -92,9 +112,17 @@ int main(int argc, char **argv) {
         volatile double y = f64(c);
         same64("sqrt_f64", c, nz_sqrt_f64(y), sqrt(y));
         same32("narrow", c, nz_narrow(y), (float)y);
+        told(c);
+        // a float, which is kept, and its neighbours, which are not
+        uint64_t wide = bits64(x);
+        told(wide);
+        told(wide - 1);
+        told(wide + 1);
         if (nz_is_finite_f64(y) != (isfinite(y) != 0)) differ("is_finite_f64", c, nz_is_finite_f64(y), isfinite(y) != 0);
         if ((i + 1) % 10000000 == 0) fprintf(stderr, "%llu of %llu\n", (unsigned long long)(i + 1), (unsigned long long)count);
     }
-    printf("%llu inputs, %llu differences\n", (unsigned long long)count * 7, (unsigned long long)differences);
-    return differences != 0;
+    const char *names[3] = {"exact", "rounded", "gone to infinity"};
+    for (int k = 0; k < 3; k++) printf("narrow_told: %llu %s\n", (unsigned long long)losses[k], names[k]);
+    printf("%llu inputs, %llu differences\n", (unsigned long long)count * 11, (unsigned long long)differences);
+    return differences != 0 || (count > FEW && !(losses[0] && losses[1] && losses[2]));
 }

@@ -1,5 +1,6 @@
 // Transforms: how an input is made, what the library leaves, and what the original does.
 use crate::calls::*;
+use crate::flags;
 use crate::inputs::Inputs;
 use crate::outputs::{buffer, Output};
 use original::{Point, Transform};
@@ -37,24 +38,31 @@ pub fn given(out: &mut Output, call: impl Fn(*mut [f32; 6])) {
     out.computed(&m);
 }
 
-// The same of a call that is lent a matrix: the library may be given one array for both, and must leave the same.
-pub fn changed(out: &mut Output, from: &[f32; 6], call: impl Fn(*const [f32; 6], *mut [f32; 6]) -> u32) -> u32 {
-    let (mut m, mut same) = (buffer::<6>(), *from);
-    let number = call(from, &mut m);
+// What stands in a lent flag before a call, and before the same call in place: both contents are tried.
+pub const FLAG_STOOD: bool = true;
+const FLAG_STOOD_IN_PLACE: bool = false;
+
+// The same of a call that is lent a matrix, with the flag behind the numbers: the library may be given one array for both, and
+// must leave the same. The flag is lent as a byte, so that one that is no bool is seen.
+pub fn changed(out: &mut Output, from: &[f32; 6], call: impl Fn(*const [f32; 6], *mut [f32; 6], *mut bool) -> u32) -> u32 {
+    let (mut m, mut flag) = (buffer::<6>(), FLAG_STOOD as u8);
+    let number = call(from, &mut m, (&raw mut flag).cast());
+    let (mut same, mut same_flag) = (*from, FLAG_STOOD_IN_PLACE as u8);
     let place: *mut [f32; 6] = &mut same;
-    let again = call(place, place);
-    let expected = if number == 0 { m } else { *from };
-    if again != number || same.map(f32::to_bits) != expected.map(f32::to_bits) {
+    let again = call(place, place, (&raw mut same_flag).cast());
+    let expected = if number == 0 { (m, flag) } else { (*from, FLAG_STOOD_IN_PLACE as u8) };
+    if again != number || same.map(f32::to_bits) != expected.0.map(f32::to_bits) || same_flag != expected.1 {
         out.number(u32::MAX); // in place it is something else: the judge has no such word
     }
     out.computed(&m);
+    out.number(flag as u32);
     number
 }
 
 // The same of a call that cannot refuse.
-pub fn void(out: &mut Output, from: &[f32; 6], call: impl Fn(*const [f32; 6], *mut [f32; 6])) {
-    changed(out, from, |a, m| {
-        call(a, m);
+pub fn void(out: &mut Output, from: &[f32; 6], call: impl Fn(*const [f32; 6], *mut [f32; 6], *mut bool)) {
+    changed(out, from, |a, m, rounded| {
+        call(a, m, rounded);
         0
     });
 }
@@ -62,6 +70,12 @@ pub fn void(out: &mut Output, from: &[f32; 6], call: impl Fn(*const [f32; 6], *m
 pub fn row(out: &mut Output, t: Transform, copied: bool) {
     let m = [t.sx, t.ky, t.kx, t.sy, t.tx, t.ty];
     if copied { out.copied(&m) } else { out.computed(&m) }
+}
+
+// The original's product, which does b first and then a, and the flag. Where one does nothing, the other is copied.
+pub fn product(out: &mut Output, t: Transform, a: Transform, b: Transform) {
+    row(out, t, a.is_identity() || b.is_identity());
+    out.flag(flags::some_lost(flags::of_product(&a, &b)));
 }
 
 pub fn kinds(c: &Case, out: &mut Output) {

@@ -1,20 +1,29 @@
 -- Laws on narrowing: what each of its cases is, and the three of specs/Laws. Assumes nothing.
-use mathlib.Core.Path.{_≡_, refl, sym, ap, _∙_}
+use mathlib.Core.Path.{_≡_, refl, sym, ap, _∙_, subst}
 use mathlib.Core.Bool.{Bool, true, false, not, cond, _&&_, true≢false}
-use lib.Ieee.{Float, nan, inf, fin, eq, isNan, ofBits}
+use Prim.Native.Nat.{ℕ, _+_, _*_, _≤_}
+use native.Mathlib.Omega.{arith}
+use lib.Dec.{T}
+use lib.IntN.{pos}
+use lib.Ieee.{Float, nan, inf, fin, binary32, hid, ones, top, eq, isNan, ofBits, toBits}
+use lib.Ieee.Bits.{nanBits-is, toBits-ofBits}
 use lib.Ieee.Scale.{finite}
 use Rattle.float_laws.specs.Narrow.{roundTo, narrowOf, kept}
 use Rattle.float_laws.proofs.Kept.{kept-is-left, left-is-kept}
+use Rattle.float_laws.proofs.Sign.{infinite}
 use Rattle.float_ground.specs.declared.narrowing.Narrowed.{Narrowed}
 use Rattle.float_ground.specs.declared.narrowing.Narrowed.the-variants.{Exact, Rounded, ToInfinity}
+use Rattle.float_ground.specs.declared.parts.Parts.{Parts}
+use Rattle.float_ground.specs.Parts.{Is}
 use Rattle.float_ground.specs.Narrowed.{narrowedOf, valueOf}
 use Rattle.float_ground.specs.Laws.{SameValue, ExactWhereKept, TinyNegative}
+use Rattle.float_ground.proofs.Converting.{plain}
 
 -- ---- the cases, by the tests that tell them
 
-pub exact : (x : Float) → kept x ≡ true → narrowedOf x ≡ Exact (narrowOf x)
+pub exact : (x : Float) {r : Float} → r ≡ narrowOf x → kept x ≡ true → Exact r ≡ narrowedOf x
 unfolding narrowedOf
-exact x k = rw k
+exact x e k = rw (e, k)
 
 -- what is not kept is finite
 lost-finite : (x : Float) → kept x ≡ false → finite x ≡ true
@@ -24,13 +33,61 @@ lost-finite (inf true) k = absurd (true≢false k)
 lost-finite (inf false) k = absurd (true≢false k)
 lost-finite (fin s m e) k = refl
 
-pub rounded : (x : Float) → kept x ≡ false → finite (narrowOf x) ≡ true → narrowedOf x ≡ Rounded (narrowOf x)
+pub rounded : (x : Float) {r : Float} → r ≡ narrowOf x → kept x ≡ false → finite r ≡ true → Rounded r ≡ narrowedOf x
 unfolding narrowedOf
-rounded x k f = rw (k, lost-finite x k, f)
+rounded x e k f = rw (k, lost-finite x k, ← e, f)
 
-pub to-infinity : (x : Float) → kept x ≡ false → finite (narrowOf x) ≡ false → narrowedOf x ≡ ToInfinity (narrowOf x)
+pub to-infinity : (x : Float) {r : Float} → r ≡ narrowOf x → kept x ≡ false → finite r ≡ false → ToInfinity r ≡ narrowedOf x
 unfolding narrowedOf
-to-infinity x k f = rw (k, lost-finite x k, f)
+to-infinity x e k f = rw (k, lost-finite x k, ← e, f)
+
+-- ---- which values are kept
+
+pub nan-kept : (x : Float) → x ≡ nan → kept x ≡ true
+unfolding kept isNan
+nan-kept x e = rw e
+
+pub infinity-kept : (x : Float) (s : Bool) → x ≡ inf s → kept x ≡ true
+unfolding kept isNan eq roundTo
+infinity-kept x true e = rw e
+infinity-kept x false e = rw e
+
+pub zero-kept : (x : Float) (s : Bool) → x ≡ fin s 0 (pos 0) → kept x ≡ true
+unfolding kept isNan eq roundTo
+zero-kept x true e = rw e
+zero-kept x false e = rw e
+
+-- a number by the comparison
+pub number-kept : (x : Float) (n : Parts) {r : Float} (b : Bool) → Is x n → r ≡ narrowOf x → eq r x ≡ b → kept x ≡ b
+unfolding kept isNan
+number-kept nan n b h e k = absurd h
+number-kept (inf s) n b h e k = absurd h
+number-kept (fin s m d) n b h e k = rw (← e) k
+
+-- ---- which patterns are those of infinities
+
+pub infinite-rest : (s : Bool) (rest : ℕ) → rest ≡ 0x7f80_0000 → finite (ofBits binary32 (cond s (top binary32) 0 + rest)) ≡ false
+infinite-rest s rest e = rw (e, infinite binary32 s)
+
+pub finite-rest : (s : Bool) (rest : ℕ) → rest ≤ ones binary32 * hid binary32 → (rest ≡ 0x7f80_0000 → ⊥) →
+    finite (ofBits binary32 (cond s (top binary32) 0 + rest)) ≡ true
+unfolding isNan toBits
+finite-rest s rest h e =
+    let P = plain binary32 s rest h in
+    let b = cond s (top binary32) 0 + rest in
+    let N = subst T (ap not (nanBits-is binary32 b)) (P .0) in
+    go (ofBits binary32 b) N (toBits-ofBits binary32 b (P .1) N)
+  where
+    only : (s t : Bool) → cond t (top binary32) 0 + ones binary32 * hid binary32 ≡ cond s (top binary32) 0 + rest → rest ≡ 0x7f80_0000
+    only true true g = omega arith
+    only true false g = omega arith
+    only false true g = omega arith
+    only false false g = omega arith
+
+    go : (r : Float) → T (not (isNan r)) → toBits binary32 r ≡ cond s (top binary32) 0 + rest → finite r ≡ true
+    go nan N g = absurd N
+    go (inf t) N g = absurd (e (only s t g))
+    go (fin t m d) N g = refl
 
 -- ---- the laws
 
@@ -77,7 +134,5 @@ exact-kept x r = go (kept x) (finite x && not (finite (narrowOf x)))
     go false false e = cc
 
 pub exact-where-kept : ExactWhereKept
-exact-where-kept x r F = (
-  λ e. sym (ap valueOf e) ∙ same-value x ∙ kept-is-left x F (exact-kept x r e),
-  λ e. exact x (left-is-kept x e) ∙ ap Exact e,
-)
+exact-where-kept x r F =
+    (λ e. sym (ap valueOf e) ∙ same-value x ∙ kept-is-left x F (exact-kept x r e), λ e. sym (exact x (sym e) (left-is-kept x e)))

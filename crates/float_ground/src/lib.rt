@@ -7,7 +7,7 @@ ghost use Rattle.float_laws.specs.Absolute.{absOf};
 ghost use Rattle.float_laws.specs.Root.{Root, rootOf};
 use parts::Width;
 
-mod narrowing;
+pub mod narrowing;
 mod pack;
 mod parts;
 mod root;

@@ -1,12 +1,12 @@
 // Narrowing that says what it lost.
 ghost use mathlib.Core.Path.{_≡_};
-ghost use mathlib.Core.Bool.{_||_};
-ghost use lib.Ieee.{eq, isNan};
-ghost use Rattle.float_laws.specs.Narrow.{narrowOf};
+ghost use lib.Ieee.{binary64};
 ghost use Rattle.float_ground.specs.Narrowed.{narrowedOf, valueOf, lossOf};
-use super::is_finite_f32;
+ghost use Rattle.float_ground.specs.Parts.{TakenApart};
 use super::pack;
 use super::parts;
+use super::parts::Apart;
+use super::parts::Parts;
 use super::parts::Width;
 
 // What narrowing answers, with the number.
@@ -43,32 +43,36 @@ impl Narrowed {
     }
 }
 
-// x rounded once to the nearest `f32`, a tie to the even one: an infinity from halfway above the largest
-// `f32` up, a subnormal or a zero of x's sign below the normal range, NaN for NaN.
-fn nearest(x: f64) -> f32
-    ensures { λ r. ⌜ r ≡ narrowOf x ⌝ }
+// What x is narrowed to, where x is the number that n stands for.
+fn number(x: f64, n: Parts) -> Narrowed
+    requires { ⌜ TakenApart binary64 x (Apart.Number n) ⌝ }
+    ensures { λ r. ⌜ r ≡ narrowedOf x ⌝ }
 {
-    pack::float32(pack::round_to(Width::W32, parts::take_apart64(x)))
-}
-
-// Whether r, as an `f64`, is x, or x is NaN.
-fn is_back(r: f32, x: f64) -> bool
-    ensures { λ b. ⌜ b ≡ (isNan x || eq r x) ⌝ }
-{
-    (x != x) | (std::num::f32_to_f64_with_nan(r) == x)
-}
-
-// The nearest `f32`, and whether it is x.
-pub fn narrow(x: f64) -> Narrowed
-    ensures { λ n. ⌜ n ≡ narrowedOf x ⌝ }
-{
-    let r = nearest(x);
-    if is_back(r, x) {
+    let rest = pack::pack(Width::W32, n);
+    let r = pack::float32(pack::signed(Width::W32, n.negative, rest));
+    if r as f64 == x {
         return Narrowed::Exact(r);
     }
-    if is_finite_f32(r) {
-        Narrowed::Rounded(r)
+    if rest == 0x7f80_0000 {
+        Narrowed::ToInfinity(r) // from a number
     } else {
-        Narrowed::ToInfinity(r) // x is finite, since an infinity is kept
+        Narrowed::Rounded(r)
+    }
+}
+
+// x rounded once to the nearest `f32`, a tie to the even one, and whether that is x: an infinity from halfway above
+// the largest `f32` up, a subnormal or a zero of x's sign below the normal range, NaN for NaN.
+pub fn narrow(x: f64) -> Narrowed
+    ensures { λ r. ⌜ r ≡ narrowedOf x ⌝ }
+{
+    match parts::take_apart64(x) {
+        Apart::Nan => Narrowed::Exact(0.0 / 0.0),
+        Apart::Infinite(negative) => {
+            Narrowed::Exact(pack::float32(pack::infinite(Width::W32, negative)))
+        }
+        Apart::Zero(negative) => {
+            Narrowed::Exact(pack::float32(pack::signed(Width::W32, negative, 0)))
+        }
+        Apart::Number(n) => number(x, n),
     }
 }
