@@ -1,9 +1,9 @@
--- Laws on narrowing: what each of its cases is, and the three of specs/Laws. Assumes nothing.
+-- Laws on narrowing: what each of its cases is, and those of specs/Laws. Assumes nothing.
 use mathlib.Core.Path.{_≡_, refl, sym, ap, _∙_, subst}
 use mathlib.Core.Bool.{Bool, true, false, not, cond, _&&_, true≢false}
 use Prim.Native.Nat.{ℕ, _+_, _*_, _≤_}
 use native.Mathlib.Omega.{arith}
-use lib.Dec.{T}
+use lib.Dec.{T, eqb}
 use lib.IntN.{pos}
 use lib.Ieee.{Float, nan, inf, fin, binary32, hid, ones, top, eq, isNan, ofBits, toBits}
 use lib.Ieee.Bits.{nanBits-is, toBits-ofBits}
@@ -15,8 +15,8 @@ use Rattle.float_ground.specs.declared.narrowing.Narrowed.{Narrowed}
 use Rattle.float_ground.specs.declared.narrowing.Narrowed.the-variants.{Exact, Rounded, ToInfinity}
 use Rattle.float_ground.specs.declared.parts.Parts.{Parts}
 use Rattle.float_ground.specs.Parts.{Is}
-use Rattle.float_ground.specs.Narrowed.{narrowedOf, valueOf}
-use Rattle.float_ground.specs.Laws.{SameValue, ExactWhereKept, TinyNegative}
+use Rattle.float_ground.specs.Narrowed.{narrowedOf, valueOf, lossOf}
+use Rattle.float_ground.specs.Laws.{SameValue, ExactWhereKept, NothingLost, GivenIsExact, TinyNegative}
 use Rattle.float_ground.proofs.Converting.{plain}
 
 -- ---- the cases, by the tests that tell them
@@ -104,34 +104,32 @@ same-value x = go (kept x) (finite x && not (finite (narrowOf x)))
 pub carried : (x : Float) {n : Narrowed} → n ≡ narrowedOf x → valueOf n ≡ narrowOf x
 carried x e = ap valueOf e ∙ same-value x
 
--- whether a case is not exact, and that it then is not kept
-abbrev pub lostIn : Narrowed → Bool
-lostIn (Exact r) = false
-lostIn (Rounded r) = true
-lostIn (ToInfinity r) = true
-
-pub told : (x : Float) {n : Narrowed} → n ≡ narrowedOf x → lostIn n ≡ not (kept x)
+pub nothing-lost : NothingLost
 unfolding narrowedOf
-told x e = ap lostIn e ∙ go (kept x) (finite x && not (finite (narrowOf x)))
+nothing-lost x = go (kept x) (finite x && not (finite (narrowOf x)))
   where
-    go : (k i : Bool) → lostIn (cond k (Exact (narrowOf x)) (cond i (ToInfinity (narrowOf x)) (Rounded (narrowOf x)))) ≡ not k
+    go : (k i : Bool) → eqb (lossOf (cond k (Exact (narrowOf x)) (cond i (ToInfinity (narrowOf x)) (Rounded (narrowOf x))))) 0 ≡ k
     go true i = refl
     go false true = refl
     go false false = refl
+
+-- whether a call of `narrow` lost something
+abbrev pub lostIn : Narrowed → Bool
+lostIn n = not (eqb (lossOf n) 0)
+
+pub told : (x : Float) {n : Narrowed} → n ≡ narrowedOf x → lostIn n ≡ not (kept x)
+told x e = ap lostIn e ∙ ap not (nothing-lost x)
+
+pub given-is-exact : GivenIsExact
+unfolding roundTo
+given-is-exact = (λ s. sym (exact (inf s) refl (infinity-kept (inf s) s refl)), sym (exact nan refl (nan-kept nan refl)))
 
 pub tiny-negative : TinyNegative
 unfolding narrowedOf kept roundTo isNan ofBits eq
 tiny-negative = refl
 
--- the case tells whether the value is kept
 exact-kept : (x r : Float) → narrowedOf x ≡ Exact r → kept x ≡ true
-unfolding narrowedOf
-exact-kept x r = go (kept x) (finite x && not (finite (narrowOf x)))
-  where
-    go : (k i : Bool) → cond k (Exact (narrowOf x)) (cond i (ToInfinity (narrowOf x)) (Rounded (narrowOf x))) ≡ Exact r → k ≡ true
-    go true i e = refl
-    go false true e = cc
-    go false false e = cc
+exact-kept x r e = sym (nothing-lost x) ∙ ap (λ (n : Narrowed). eqb (lossOf n) 0) e
 
 pub exact-where-kept : ExactWhereKept
 exact-where-kept x r F =

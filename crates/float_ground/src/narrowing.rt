@@ -54,7 +54,7 @@ fn number(x: f64, n: Parts) -> Narrowed
         return Narrowed::Exact(r);
     }
     if rest == 0x7f80_0000 {
-        Narrowed::ToInfinity(r) // from a number
+        Narrowed::ToInfinity(r) // x is finite: it is a number
     } else {
         Narrowed::Rounded(r)
     }

@@ -62,9 +62,6 @@ nearlySingular t = nearlyZero (narrowOf (determinant t)) nearlyNothing
 abbrev pub overDeterminant : Transform → Float
 overDeterminant t = one64 ⧄ determinant t
 
-unfoldable pub invDeterminant : Transform → InvDeterminant
-invDeterminant t = cond (nearlySingular t) NearlyZero (Is (overDeterminant t) (not (kept (determinant t))))
-
 unfoldable pub skewedInverse : Transform → Float → Transform
 skewedInverse t inv-det =
     rowOf
@@ -109,7 +106,10 @@ refusalOf t =
     (cond (isFinite (skewedInverse t (overDeterminant t))) 0 (numberOfInversion NotFinite)))
     0
 
--- ---- the steps of a skewed inverse
+-- ---- the steps of a skewed inverse, flagged step by step
+unfoldable pub invDeterminant : Transform → InvDeterminant
+invDeterminant t = cond (nearlySingular t) NearlyZero (Is (overDeterminant t) (not (kept (determinant t))))
+
 abbrev pub skewedTold : Transform → Float → Computed
 skewedTold t inv-det = computedOf (skewedInverse t inv-det) (someLost (skewedScaled t inv-det))
 
