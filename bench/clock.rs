@@ -44,13 +44,15 @@ fn row(name: &str, ours: f64, theirs: f64) {
     beside(name, ours, "the original", theirs);
 }
 
-// What conics are timed: of milliseconds; with finite coordinates whose products overflow; and of a weight below 0, so that the
-// first chop has to be corrected along both axes.
+// What conics are timed: of milliseconds; with finite coordinates whose products overflow; of a weight below 0, so that the first
+// chop has to be corrected along both axes; and with ys so large, and xs so small, that sums of ys overflow and products do not, so
+// that every midpoint is computed again through f64.
 #[derive(Clone, Copy, PartialEq)]
 enum Kind {
     Plain,
     Overflowing,
     Corrected,
+    ThroughF64,
 }
 
 // Whole numbers below 2^24, the same each time.
@@ -64,8 +66,21 @@ fn random() -> impl FnMut() -> f32 {
     }
 }
 
+fn through_f64() -> Inputs {
+    let mut next = random();
+    let mut part = move || next() / 16777216.0;
+    let mut conic = move || {
+        let (a, b) = (part(), part());
+        ([a * 1e-30, 2.9e38, (a + b) * 1e-30, 3.0e38 + b * 1e37, (a + 2.0 * b) * 1e-30, 3.3e38], 0.25 + part())
+    };
+    (0..CONICS).map(|_| conic()).collect()
+}
+
 // All of them are in order along both axes.
 fn conics(kind: Kind) -> Inputs {
+    if kind == Kind::ThroughF64 {
+        return through_f64();
+    }
     let mut next = random();
     (0..CONICS)
         .map(|_| {
@@ -127,7 +142,7 @@ fn cuts(level: u32, kind: Kind, cleared: bool) {
     let original = median(CONICS, theirs(&inputs, level, cleared));
     for (rule, cut) in RULES {
         let library = median(CONICS, ours(cut, &inputs, level, cleared));
-        let kind = ["", ", overflowing", ", corrected"][kind as usize];
+        let kind = ["", ", overflowing", ", corrected", ", through f64"][kind as usize];
         let buffer = if cleared { "cleared" } else { "not cleared" };
         row(&format!("cut at level {}, {}{}, {}", level, rule, kind, buffer), library, original);
     }
@@ -226,7 +241,7 @@ fn ground() {
 fn main() {
     for level in [4, 6] {
         for cleared in [false, true] {
-            for kind in [Kind::Plain, Kind::Overflowing, Kind::Corrected] {
+            for kind in [Kind::Plain, Kind::Overflowing, Kind::Corrected, Kind::ThroughF64] {
                 cuts(level, kind, cleared);
             }
         }
