@@ -60,7 +60,7 @@ static bool promised(const float *bridge) {
 }
 
 // What undoes a pad's matrix, and whether it was rounded, for the log that support reads. Where it was, a number lost digits as
-// it became a float, and a stroke that is mapped back can miss its place by a last digit: rounding, and no fault of the pad.
+// it became a float, and a stroke that is mapped back can miss its place a little: rounding, and no fault of the pad.
 static bool undo(const char *pad, const float m[6]) {
     float u[6];
     bool rounded;

@@ -72,7 +72,7 @@ fn promised(b: &[f32; 6]) -> bool {
 }
 
 // What undoes a pad's matrix, and whether it was rounded, for the log that support reads. Where it was, a number lost digits as
-// it became a float, and a stroke that is mapped back can miss its place by a last digit: rounding, and no fault of the pad.
+// it became a float, and a stroke that is mapped back can miss its place a little: rounding, and no fault of the pad.
 fn undo(pad: &str, m: [f32; 6]) {
     let (mut u, mut rounded) = ([0.0; 6], false);
     assert!(unsafe { nz_transform_invert(&m, &mut u, &mut rounded) } == NZ_OK); // else neither has a value

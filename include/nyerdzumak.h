@@ -77,11 +77,10 @@
 #define NZ_KIND_CORRECTION 3u /* one word, the bits of an int32_t: milliseconds */
 #define NZ_MAX_RECORD 34u
 
-/* what nz_narrow_told lost: nothing, so that widening the float gives the double back, or both are NaN; what was rounded away,
- * all of it where a zero is left; or a finite value that became an infinity */
-#define NZ_NARROW_EXACT 0u
-#define NZ_NARROW_ROUNDED 1u
-#define NZ_NARROW_TO_INFINITY 2u
+/* what nz_narrow_told tells */
+#define NZ_NARROW_EXACT 0u       /* widening the float gives the double back, or both are NaN */
+#define NZ_NARROW_ROUNDED 1u     /* the float is another finite number, also a zero */
+#define NZ_NARROW_TO_INFINITY 2u /* a finite double became an infinity */
 
 /* A length in numbers, or, of a journal, a length or an offset in bytes: 64 bits on every target, also where size_t has 32. */
 typedef uint64_t nz_len;
@@ -263,13 +262,14 @@ void nz_transform_from_scale(float sx, float sy, float out[6]);
 void nz_transform_from_skew(float kx, float ky, float out[6]);
 
 /* What b does and then a; what a does and then b.
- *   *rounded is set to true exactly where some number was narrowed from double to float and its value was not kept: the six
- * sums of products of a matrix that skews, or times one that does. Where neither skews, and where one does nothing, all is
- * computed in float or copied, nothing is narrowed, and it is false: it says nothing of the rounding of float arithmetic. */
+ *   *rounded is set to true exactly where some double was narrowed to a float and not kept: of the six sums of two products,
+ * before tx or ty is added, where a or b skews. Where neither skews, or one does nothing, no double is narrowed, and it is
+ * false. It says nothing of the rounding inside float or double arithmetic. */
 void nz_transform_pre_concat(const float a[6], const float b[6], float out[6], bool *rounded);
 void nz_transform_post_concat(const float a[6], const float b[6], float out[6], bool *rounded);
 
-/* The same where one of the two scales, or moves: before m does what it does, or after. */
+/* The same where one of the two scales, or moves: before m does what it does, or after. By nz_transform_post_translate *rounded
+ * is always false: each of its sums is a number of m, or NaN. */
 void nz_transform_pre_scale(const float m[6], float sx, float sy, float out[6], bool *rounded);
 void nz_transform_post_scale(const float m[6], float sx, float sy, float out[6], bool *rounded);
 void nz_transform_pre_translate(const float m[6], float tx, float ty, float out[6], bool *rounded);
@@ -277,7 +277,7 @@ void nz_transform_post_translate(const float m[6], float tx, float ty, float out
 
 /* The matrix that undoes m. A matrix without skew is inverted unchecked: a scale of 0 gives infinities and NaN.
  *   *rounded is set as by a product: of a matrix that skews its determinant is narrowed, for its test, and then the six entries
- * of the inverse; else nothing is. Beside a refusal it keeps its contents, as out does.
+ * of the inverse; else nothing is narrowed, and it is false. Beside a refusal it keeps its contents, as out does.
  *   Answers NZ_OK, NZ_NEARLY_SINGULAR or NZ_INVERSE_NOT_FINITE. */
 uint32_t nz_transform_invert(const float m[6], float out[6], bool *rounded);
 

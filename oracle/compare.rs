@@ -1,6 +1,7 @@
-// Every exported call but those for dates, which dates.rs has, beside the original, in one process, on inputs from a seed. See
-// calls.rs for what is compared, flags.rs for what the original does not say of its rounding, outputs.rs for what counts as the
-// same, promise.rs for what is tested beside it, and levels.rs for what is counted. Some of the modules serve the list alone.
+// Every exported call but those for dates and journals, which have judges of their own, beside the original, in one process, on
+// inputs from a seed. See calls.rs for what is compared, flags.rs for what the original does not say of its rounding, outputs.rs
+// for what counts as the same, promise.rs for what is tested beside it, and levels.rs for what is counted. Some of the modules
+// serve the list alone.
 #![allow(dead_code)]
 
 mod calls;

@@ -113,7 +113,7 @@ int main(int argc, char **argv) {
         same64("sqrt_f64", c, nz_sqrt_f64(y), sqrt(y));
         same32("narrow", c, nz_narrow(y), (float)y);
         told(c);
-        // a float, which is kept, and its neighbours, which are not
+        // a float, which is kept, and the patterns next to it, most of which are not
         uint64_t wide = bits64(x);
         told(wide);
         told(wide - 1);

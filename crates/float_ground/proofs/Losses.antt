@@ -132,5 +132,5 @@ exact-kept : (x r : Float) → narrowedOf x ≡ Exact r → kept x ≡ true
 exact-kept x r e = sym (nothing-lost x) ∙ ap (λ (n : Narrowed). eqb (lossOf n) 0) e
 
 pub exact-where-kept : ExactWhereKept
-exact-where-kept x r F =
-    (λ e. sym (ap valueOf e) ∙ same-value x ∙ kept-is-left x F (exact-kept x r e), λ e. sym (exact x (sym e) (left-is-kept x e)))
+exact-where-kept x F =
+    (λ r e. sym (ap valueOf e) ∙ same-value x ∙ kept-is-left x F (exact-kept x r e), λ e. sym (exact x (sym e) (left-is-kept x e)))

@@ -12,10 +12,10 @@ use Rattle.float_ground.specs.Narrowed.{narrowedOf, valueOf, lossOf}
 abbrev pub SameValue : Type 0
 SameValue = (x : Float) → valueOf (narrowedOf x) ≡ narrowOf x
 
--- exact exactly where widening it back gives x, a zero's sign too; a `Float` has one NaN, so that both may be NaN
+-- exact exactly where widening it back gives x, a zero's sign too, or both are NaN: what is widened is the same `Float`, and a NaN is one
 abbrev pub ExactWhereKept : Type 0
 ExactWhereKept =
-    (x r : Float) → T (fits binary64 x) → (narrowedOf x ≡ Exact r → r ≡ x) × (narrowOf x ≡ x → narrowedOf x ≡ Exact x)
+    (x : Float) → T (fits binary64 x) → ((r : Float) → narrowedOf x ≡ Exact r → r ≡ x) × (narrowOf x ≡ x → narrowedOf x ≡ Exact x)
 
 -- nothing is lost exactly where the value is kept, which is what flags go by
 abbrev pub NothingLost : Type 0

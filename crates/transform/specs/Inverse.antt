@@ -72,7 +72,8 @@ skewedInverse t inv-det =
     (dscaleOf (dcrossOf (t .kx) (t .ty) (t .sy) (t .tx)) inv-det)
     (dscaleOf (dcrossOf (t .ky) (t .tx) (t .sx) (t .ty)) inv-det)
 
--- ---- which numbers are narrowed on the way: without skew none; with it the determinant, for its test, and the six entries
+-- ---- which numbers are narrowed on the way: without skew none; with it the determinant, for its test, and those of `skewedInverse`,
+-- in its order
 abbrev pub skewedScaled : Transform → Float → List Float
 skewedScaled t inv-det =
     t .sy ⊠ inv-det
@@ -110,8 +111,8 @@ refusalOf t =
 unfoldable pub invDeterminant : Transform → InvDeterminant
 invDeterminant t = cond (nearlySingular t) NearlyZero (Is (overDeterminant t) (not (kept (determinant t))))
 
-abbrev pub skewedTold : Transform → Float → Computed
-skewedTold t inv-det = computedOf (skewedInverse t inv-det) (someLost (skewedScaled t inv-det))
+abbrev pub scaledTold : Transform → Float → Computed
+scaledTold t inv-det = computedOf (skewedInverse t inv-det) (someLost (skewedScaled t inv-det))
 
 unfoldable pub checkedOf : Transform → Bool → Inversion
 checkedOf inverse rounded = cond (isFinite inverse) (Inverted (computedOf inverse rounded)) NotFinite

@@ -39,7 +39,7 @@ unfoldable pub concatOf : Transform → Transform → Transform
 concatOf a b = cond (isIdentity a) b (cond (isIdentity b) a (productOf a b))
 
 -- ---- which numbers are narrowed on the way
--- in the order of `from_row`
+-- those of `skewedProduct`, in its order
 abbrev pub skewedSums : Transform → Transform → List Float
 skewedSums a b =
     mulAdd (a .sx) (b .sx) (a .kx) (b .ky)

@@ -1,6 +1,6 @@
 // The inverse of a transform. Carried over from `transform.rs` of tiny-skia-path 0.12.0.
 ghost use mathlib.Core.Path.{_≡_};
-ghost use Rattle.transform.specs.Inverse.{numberOfInversion, refusalOf, invertOf, unskewedInverse, invDeterminant, skewedTold, skewedInversion, checkedOf, dcrossOf};
+ghost use Rattle.transform.specs.Inverse.{numberOfInversion, refusalOf, invertOf, unskewedInverse, invDeterminant, scaledTold, skewedInversion, checkedOf, dcrossOf};
 ghost use Rattle.transform.specs.Told.{entryOf};
 ghost use Rattle.float_laws.specs.Formula.{_⊠_};
 use super::Computed;
@@ -107,7 +107,7 @@ fn inv_determinant(ts: Transform) -> InvDeterminant
 
 // The inverse of a skewed transform, each entry computed in f64 and narrowed once.
 fn compute_inv(ts: Transform, inv_det: f64) -> Computed
-    ensures { λ r. ⌜ r ≡ skewedTold ts «inv_det» ⌝ }
+    ensures { λ r. ⌜ r ≡ scaledTold ts «inv_det» ⌝ }
 {
     entry::together(
         dscale(ts.sy, inv_det),
