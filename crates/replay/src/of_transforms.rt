@@ -83,13 +83,10 @@ fn inverse(m: &[f32; 6]) -> Sum {
 }
 
 fn all_made(x: f32, y: f32) -> Sum {
-    let mut s = sum::START;
-    let mut j = 0;
-    while j < 4 {
-        s = made_row(s, j, x, y);
-        j += 1;
-    }
-    s
+    let a = made_row(sum::START, 0, x, y);
+    let b = made_row(a, 1, x, y);
+    let c = made_row(b, 2, x, y);
+    made_row(c, 3, x, y)
 }
 
 // What the products from one on and before another give.
