@@ -1,5 +1,6 @@
-// Every exported call beside the original's, but for dates, which it does not have: how an input is made, what the library
-// gives, and what it has to give. Where the original would panic or has no such input, the numbers of docs/RULES.md stand here.
+// Every exported call beside the original's, but for dates and journals, which it does not have: how an input is made, what the
+// library gives, and what it has to give. Where the original would panic or has no such input, the numbers of docs/RULES.md
+// stand here.
 use crate::flags;
 use crate::inputs::Inputs;
 use crate::of_conics::*;
