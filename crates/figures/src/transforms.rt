@@ -57,7 +57,7 @@ fn inverted(name: &[u8], ts: Transform) {
     print::end();
 }
 
-pub fn show() {
+fn mappings() {
     mapped(
         b"from_row(1,2,3,4,5,6) maps (1,1) to:",
         Transform::from_row(1.0, 2.0, 3.0, 4.0, 5.0, 6.0),
@@ -69,21 +69,16 @@ pub fn show() {
         1.0,
         1.0,
     );
+}
+
+fn inverses() {
     inverted(
         b"from_row(2,0,0,4,6,8) inverted:",
         Transform::from_row(2.0, 0.0, 0.0, 4.0, 6.0, 8.0),
     );
     inverted(
-        b"from_row(1,1,1,1,0,0) inverted:",
-        Transform::from_row(1.0, 1.0, 1.0, 1.0, 0.0, 0.0),
-    );
-    inverted(
-        b"from_row(0,0.5,0.5,0,2^127,0) inverted:",
-        Transform::from_row(0.0, 0.5, 0.5, 0.0, 1.7014118346046923e38, 0.0),
-    );
-    inverted(
-        b"from_scale(0,1) inverted:",
-        Transform::from_scale(0.0, 1.0),
+        b"from_row(1,-0,-0,1,-0,-0) inverted:",
+        Transform::from_row(1.0, -0.0, -0.0, 1.0, -0.0, -0.0),
     );
     inverted(
         b"from_row(1,1,-1,1,0,0) inverted:",
@@ -104,6 +99,52 @@ pub fn show() {
             0.0,
         ),
     );
+}
+
+fn refused_inverses() {
+    let infinity = 1.0 / 0.0;
+    inverted(
+        b"from_row(1,1,1,1,0,0) inverted:",
+        Transform::from_row(1.0, 1.0, 1.0, 1.0, 0.0, 0.0),
+    );
+    inverted(
+        b"from_row(1,1,1,1,infinity,0) inverted:",
+        Transform::from_row(1.0, 1.0, 1.0, 1.0, infinity, 0.0),
+    );
+    inverted(
+        b"from_row(0,0.5,0.5,0,2^127,0) inverted:",
+        Transform::from_row(0.0, 0.5, 0.5, 0.0, 1.7014118346046923e38, 0.0),
+    );
+    inverted(
+        b"from_scale(0,1) inverted:",
+        Transform::from_scale(0.0, 1.0),
+    );
+    inverted(
+        b"from_row(0,0,0,0,0,0) inverted:",
+        Transform::from_row(0.0, 0.0, 0.0, 0.0, 0.0, 0.0),
+    );
+    inverted(
+        b"from_scale(2^-128,1) inverted:",
+        Transform::from_scale(2.938735877055719e-39, 1.0),
+    );
+    inverted(
+        b"from_row(2^-100,0,0,1,2^100,0) inverted:",
+        Transform::from_row(
+            7.888609052210118e-31,
+            0.0,
+            0.0,
+            1.0,
+            1.2676506002282294e30,
+            0.0,
+        ),
+    );
+    inverted(
+        b"from_translate(0,infinity) inverted:",
+        Transform::from_translate(0.0, infinity),
+    );
+}
+
+fn products() {
     product(
         b"from_row(1,2,3,4,5,6) times from_row(2,1,1,2,1,1):",
         Transform::from_row(1.0, 2.0, 3.0, 4.0, 5.0, 6.0),
@@ -119,4 +160,11 @@ pub fn show() {
         Transform::from_scale(0.1, 0.2),
         Transform::from_scale(0.3, 0.7),
     );
+}
+
+pub fn show() {
+    mappings();
+    inverses();
+    refused_inverses();
+    products();
 }

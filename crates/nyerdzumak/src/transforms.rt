@@ -3,7 +3,7 @@ ghost use mathlib.Core.Path.{_≡_};
 ghost use mathlib.Core.List.{[], _∷_};
 ghost use Rattle.float_laws.specs.Narrow.{someLost};
 ghost use Rattle.point.specs.Numbers.{flat, pointAt};
-ghost use Rattle.transform.specs.Inverse.{numberOfInversion, valuesOfInversion, flagsOfInversion, refusalOf, invertOf};
+ghost use Rattle.transform.specs.Inverse.{numberOfInversion, valuesOfInversion, flagsOfInversion, invertOf};
 ghost use Rattle.transform.specs.Mapped.{mapPoint};
 ghost use Rattle.transform.specs.Product.{concatOf, concatNarrows};
 ghost use Rattle.transform.specs.Row.{rowNumbers, identityRow, translateOf, scaleOf, skewOf};
@@ -174,10 +174,10 @@ fn give_inverse(answer: Inversion, out: &mut [f32; 6], rounded: &mut bool) -> u3
     }
 }
 
-// The matrix that undoes m.
+// The matrix that undoes m, if all of it is finite.
 #[no_mangle]
 pub extern "C" fn nz_transform_invert(m: &[f32; 6], out: &mut [f32; 6], rounded: &mut bool) -> u32
-    ensures { λ r. ⌜ r ≡ refusalOf (matrixOf (now (m .entry))) ⌝ }
+    ensures { λ r. ⌜ r ≡ numberOfInversion (invertOf (matrixOf (now (m .entry)))) ⌝ }
     ensures out { λ _. ⌜ now (out .exit) ≡ filledOr (now (out .entry)) (valuesOfInversion (invertOf (matrixOf (now (m .entry))))) ⌝ }
     ensures rounded { λ _. ⌜ now (rounded .exit) ≡ firstOr (now (rounded .entry)) (flagsOfInversion (invertOf (matrixOf (now (m .entry))))) ⌝ }
 {

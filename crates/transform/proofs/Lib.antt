@@ -1,3 +1,3 @@
 pub mod Entries
-pub mod Refusals
+pub mod Finite
 pub mod Undone

@@ -1,22 +1,18 @@
 -- The branches of `invert`, each as `invertOf` has it: what does not skew narrows nothing, and what skews goes by its determinant. Assumes
 -- nothing.
-use mathlib.Core.Path.{_≡_, refl, sym}
+use mathlib.Core.Path.{_≡_, refl}
 use mathlib.Core.Bool.{Bool, true, false, not, cond, _&&_, _||_, Bool·beq, true≢false, false≢true}
 use Rattle.float_laws.specs.Narrow.{kept, someLost}
 use Rattle.transform.specs.declared.Transform.{Transform}
-use Rattle.transform.specs.declared.invert.Inversion.the-variants.{Inverted, NearlySingular, NotFinite}
+use Rattle.transform.specs.declared.invert.Inversion.the-variants.{Inverted, NearlySingular}
 use Rattle.transform.specs.declared.invert.InvDeterminant.the-variants.{Is, NearlyZero}
-use Rattle.transform.specs.Kinds.{hasScale, hasSkew, hasTranslate, hasOnly, isIdentity, isScaleTranslate, isFinite}
+use Rattle.transform.specs.Kinds.{hasScale, hasSkew, hasTranslate, hasOnly, isIdentity, isScaleTranslate}
 use Rattle.transform.specs.Told.{computedOf}
-use Rattle.transform.specs.Inverse.{invertOf, invertNarrows, unskewedInverse, skewedInverse, skewedScaled, invDeterminant}
-use Rattle.transform.specs.Inverse.{skewedInversion, checkedOf, determinant, nearlySingular, overDeterminant, undone}
+use Rattle.transform.specs.Inverse.{invertOf, inverseOf, invertNarrows, unskewedInverse, skewedInverse, skewedScaled, invDeterminant}
+use Rattle.transform.specs.Inverse.{skewedInversion, checkedOf, determinant, nearlySingular, overDeterminant}
+use Rattle.transform.proofs.Finite.{nothing, identity-finite}
 
 -- ---- which parts a branch has
-
-nothing-skews : (scale skew translate : Bool) → (Bool·beq scale false && Bool·beq skew false && Bool·beq translate false) ≡ true → skew ≡ false
-nothing-skews true skew translate e = absurd (false≢true e)
-nothing-skews false true translate e = absurd (false≢true e)
-nothing-skews false false translate e = refl
 
 none-skews : (scale skew translate : Bool) → ((scale || translate) && not skew) ≡ true → skew ≡ false
 none-skews scale false translate e = refl
@@ -38,22 +34,24 @@ unfolding invertNarrows someLost
 clear t s = rw s
 
 pub by-identity : (t : Transform) → isIdentity t ≡ true → Inverted (computedOf t false) ≡ invertOf t
-unfolding invertOf hasOnly
-by-identity t i = rw (i, clear t (nothing-skews (hasScale t) (hasSkew t) (hasTranslate t) i))
+unfolding invertOf inverseOf checkedOf hasOnly
+by-identity t i =
+    let s = nothing (hasScale t) (hasSkew t) (hasTranslate t) i .1 in
+    rw (i, s, identity-finite t i, clear t s)
 
-pub by-scale : (t : Transform) → isIdentity t ≡ false → isScaleTranslate t ≡ true → Inverted (computedOf (unskewedInverse t) false) ≡ invertOf t
-unfolding invertOf isScaleTranslate
-by-scale t i s = rw (i, s, clear t (none-skews (hasScale t) (hasSkew t) (hasTranslate t) s))
+pub by-scale : (t : Transform) → isIdentity t ≡ false → isScaleTranslate t ≡ true → checkedOf (unskewedInverse t) false ≡ invertOf t
+unfolding invertOf inverseOf isScaleTranslate
+by-scale t i m =
+    let s = none-skews (hasScale t) (hasSkew t) (hasTranslate t) m in
+    rw (i, s, clear t s)
 
 pub by-determinant : (t : Transform) → isIdentity t ≡ false → isScaleTranslate t ≡ false → skewedInversion t (invDeterminant t) ≡ invertOf t
-unfolding invertOf invertNarrows hasOnly isScaleTranslate invDeterminant checkedOf someLost
-by-determinant t i s =
-    rw (i, s, else-skews (hasScale t) (hasSkew t) (hasTranslate t) i s) (go (nearlySingular t))
+unfolding invertOf inverseOf invertNarrows hasOnly isScaleTranslate invDeterminant someLost
+by-determinant t i m =
+    rw (i, else-skews (hasScale t) (hasSkew t) (hasTranslate t) i m) (go (nearlySingular t))
   where
     go : (near : Bool) → skewedInversion t (cond near NearlyZero (Is (overDeterminant t) (not (kept (determinant t))))) ≡
         cond near NearlySingular
-        (cond (isFinite (skewedInverse t (overDeterminant t)))
-        (Inverted (computedOf (skewedInverse t (overDeterminant t)) (not (kept (determinant t)) || someLost (skewedScaled t (overDeterminant t)))))
-        NotFinite)
+        (checkedOf (skewedInverse t (overDeterminant t)) (not (kept (determinant t)) || someLost (skewedScaled t (overDeterminant t))))
     go true = refl
     go false = refl

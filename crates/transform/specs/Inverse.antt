@@ -1,5 +1,5 @@
 -- What `invert` answers. Definitions only.
-use mathlib.Core.Bool.{Bool, not, cond, _||_}
+use mathlib.Core.Bool.{Bool, not, cond, _&&_, _||_}
 use mathlib.Core.List.{List, [], _∷_}
 use Prim.Native.Nat.{ℕ}
 use lib.Ieee.{Float, binary32, ofBits, neg}
@@ -12,7 +12,7 @@ use Rattle.transform.specs.declared.invert.Inversion.the-variants.{Inver
 use Rattle.transform.specs.declared.invert.InvDeterminant.{InvDeterminant}
 use Rattle.transform.specs.declared.invert.InvDeterminant.the-variants.{Is, NearlyZero}
 use Rattle.transform.specs.Row.{rowOf, rowNumbers, translateOf}
-use Rattle.transform.specs.Kinds.{isIdentity, isScaleTranslate, hasScale, hasSkew, isFinite, nearlyZero}
+use Rattle.transform.specs.Kinds.{isIdentity, hasScale, hasSkew, isFinite, nearlyZero}
 use Rattle.transform.specs.Told.{computedOf}
 
 -- its number in docs/RULES.md, "Answer numbers", its values, the inverse in the order of `from_row`, and its flag: a refusal has none
@@ -87,25 +87,18 @@ skewedScaled t inv-det =
 unfoldable pub invertNarrows : Transform → List Float
 invertNarrows t = cond (hasSkew t) (determinant t ∷ skewedScaled t (overDeterminant t)) []
 
--- an inverse of t, flagged exactly where one of these narrowings is not exact
-abbrev pub undone : Transform → Transform → Inversion
-undone t inverse = Inverted (computedOf inverse (someLost (invertNarrows t)))
-
 -- ---- the answer
-unfoldable pub invertOf : Transform → Inversion
-invertOf t =
-    let inverse = skewedInverse t (overDeterminant t) in
-    cond (isIdentity t) (undone t t)
-    (cond (isScaleTranslate t) (undone t (unskewedInverse t))
-    (cond (nearlySingular t) NearlySingular (cond (isFinite inverse) (undone t inverse) NotFinite)))
+-- the computed inverse, in whichever branch: an identity is its own
+unfoldable pub inverseOf : Transform → Transform
+inverseOf t = cond (isIdentity t) t (cond (hasSkew t) (skewedInverse t (overDeterminant t)) (unskewedInverse t))
 
--- refusal 6 or 7 where it applies, else 0: what is not skewed is never refused
-unfoldable pub refusalOf : Transform → ℕ
-refusalOf t =
-    cond (hasSkew t)
-    (cond (nearlySingular t) (numberOfInversion NearlySingular)
-    (cond (isFinite (skewedInverse t (overDeterminant t))) 0 (numberOfInversion NotFinite)))
-    0
+-- 7 exactly where an entry of the computed inverse is not finite
+unfoldable pub checkedOf : Transform → Bool → Inversion
+checkedOf inverse rounded = cond (isFinite inverse) (Inverted (computedOf inverse rounded)) NotFinite
+
+-- 6 before 7, and for what skews alone; the flag is set exactly where one of the narrowings is not exact
+unfoldable pub invertOf : Transform → Inversion
+invertOf t = cond (hasSkew t && nearlySingular t) NearlySingular (checkedOf (inverseOf t) (someLost (invertNarrows t)))
 
 -- ---- the steps of a skewed inverse, flagged step by step
 unfoldable pub invDeterminant : Transform → InvDeterminant
@@ -113,9 +106,6 @@ invDeterminant t = cond (nearlySingular t) NearlyZero (Is (overDeterminant t) (n
 
 abbrev pub scaledTold : Transform → Float → Computed
 scaledTold t inv-det = computedOf (skewedInverse t inv-det) (someLost (skewedScaled t inv-det))
-
-unfoldable pub checkedOf : Transform → Bool → Inversion
-checkedOf inverse rounded = cond (isFinite inverse) (Inverted (computedOf inverse rounded)) NotFinite
 
 abbrev pub skewedInversion : Transform → InvDeterminant → Inversion
 skewedInversion t NearlyZero = NearlySingular

@@ -1,6 +1,6 @@
 // The inverse of a transform. Carried over from `transform.rs` of tiny-skia-path 0.12.0.
 ghost use mathlib.Core.Path.{_≡_};
-ghost use Rattle.transform.specs.Inverse.{numberOfInversion, refusalOf, invertOf, unskewedInverse, invDeterminant, scaledTold, skewedInversion, checkedOf, dcrossOf};
+ghost use Rattle.transform.specs.Inverse.{numberOfInversion, invertOf, unskewedInverse, invDeterminant, scaledTold, skewedInversion, checkedOf, dcrossOf};
 ghost use Rattle.transform.specs.Told.{entryOf};
 ghost use Rattle.float_laws.specs.Formula.{_⊠_};
 use super::Computed;
@@ -15,7 +15,7 @@ pub enum Inversion {
     Inverted(Computed),
     // The determinant of a skewed transform is nearly zero.
     NearlySingular,
-    // The inverse of a skewed transform has an entry that is not finite.
+    // The computed inverse has an entry that is not finite.
     NotFinite,
 }
 
@@ -42,22 +42,21 @@ enum InvDeterminant {
 const NEARLY_ZERO: f32 = 1.4551915228366852e-11;
 
 impl Transform {
-    // The transform that undoes this one. Without skew it is not checked, and may have entries that are not finite.
+    // The transform that undoes this one. An identity is given as it is; every other inverse is given if all of it is finite.
     pub fn invert(self) -> Inversion
-        ensures answer { λ r. ⌜ r ≡ invertOf self ⌝ }
-        ensures number { λ r. ⌜ numberOfInversion r ≡ refusalOf self ⌝ }
+        ensures { λ r. ⌜ r ≡ invertOf self ⌝ }
     {
         if self.is_identity() {
             return Inversion::Inverted(entry::exactly(self));
         }
         if self.is_scale_translate() {
-            return Inversion::Inverted(entry::exactly(unskewed(self)));
+            return checked(unskewed(self), false);
         }
         skewed(self)
     }
 }
 
-// The inverse of a transform that scales or moves, and does not skew.
+// The inverse of a transform that scales or moves, and does not skew: unchecked, so that a scale of 0 gives infinities and NaN.
 fn unskewed(ts: Transform) -> Transform
     ensures { λ r. ⌜ r ≡ unskewedInverse ts ⌝ }
 {

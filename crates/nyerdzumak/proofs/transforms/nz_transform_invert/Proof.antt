@@ -1,14 +1,11 @@
 -- `nyerdzumak::transforms::nz_transform_invert` meets its contract, by that of `invert`. Assumes nothing.
-use mathlib.Core.Path.{_∙_}
 use Rattle.nyerdzumak.proofs.transforms.nz_transform_invert.Statement.{statement}
 use Rattle.nyerdzumak.proofs.transforms.nz_transform_invert.Tie as tie
 
 returns : tie.Need-returns
 returns c =
     let i = c .before .before .before in
-    let found = i .invert .ensures in
-    let given = c .give-inverse .ensures in
-    rw (← i .before .matrix .ensures) (given .0 ∙ found .1, rw (← found .0) (given .1))
+    rw (← i .before .matrix .ensures, ← i .invert .ensures) (c .give-inverse .ensures)
 
 pub nz-transform-invert-spec : {M : Type 1} → statement M
 nz-transform-invert-spec = tie.close (tie.spec (λ c κs. tt) (λ c κs. tt) (λ c κs. tt) returns)
