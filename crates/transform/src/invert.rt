@@ -1,5 +1,6 @@
 // The inverse of a transform. Carried over from `transform.rs` of tiny-skia-path 0.12.0.
 ghost use mathlib.Core.Path.{_≡_};
+ghost use mathlib.Core.Bool.{false};
 ghost use Rattle.transform.specs.Inverse.{numberOfInversion, invertOf, unskewedInverse, invDeterminant, scaledTold, skewedInversion, checkedOf, dcrossOf};
 ghost use Rattle.transform.specs.Told.{entryOf};
 ghost use Rattle.float_laws.specs.Formula.{_⊠_};
@@ -42,7 +43,7 @@ enum InvDeterminant {
 const NEARLY_ZERO: f32 = 1.4551915228366852e-11;
 
 impl Transform {
-    // The transform that undoes this one. An identity is given as it is; every other inverse is given if all of it is finite.
+    // The transform that undoes this one, if all of it is finite. An identity is its own.
     pub fn invert(self) -> Inversion
         ensures { λ r. ⌜ r ≡ invertOf self ⌝ }
     {
@@ -50,22 +51,23 @@ impl Transform {
             return Inversion::Inverted(entry::exactly(self));
         }
         if self.is_scale_translate() {
-            return checked(unskewed(self), false);
+            return unskewed(self);
         }
         skewed(self)
     }
 }
 
-// The inverse of a transform that scales or moves, and does not skew: unchecked, so that a scale of 0 gives infinities and NaN.
-fn unskewed(ts: Transform) -> Transform
-    ensures { λ r. ⌜ r ≡ unskewedInverse ts ⌝ }
+// The inverse of a transform that scales or moves, and does not skew, if all of it is finite: that of a scale of 0 is not.
+fn unskewed(ts: Transform) -> Inversion
+    ensures { λ r. ⌜ r ≡ checkedOf (unskewedInverse ts) false ⌝ }
 {
     if ts.has_scale() {
         let inv_x = 1.0 / ts.sx;
         let inv_y = 1.0 / ts.sy;
-        Transform::from_row(inv_x, 0.0, 0.0, inv_y, -ts.tx * inv_x, -ts.ty * inv_y)
+        let inverse = Transform::from_row(inv_x, 0.0, 0.0, inv_y, -ts.tx * inv_x, -ts.ty * inv_y);
+        checked(inverse, false)
     } else {
-        Transform::from_translate(-ts.tx, -ts.ty)
+        checked(Transform::from_translate(-ts.tx, -ts.ty), false)
     }
 }
 

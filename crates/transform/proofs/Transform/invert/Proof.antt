@@ -10,11 +10,10 @@ returns c =
 
 returns-2 : tie.Need-returns-2
 returns-2 c =
-    let s = c .before .before in
+    let s = c .before in
     let i = s .before .before in
-    c .checked .ensures
-    ∙ rw (c .before .unskewed .ensures)
-    (by-scale _ (sym (i .before .is-identity .ensures) ∙ i .if1 .left) (sym (s .before .is-scale-translate .ensures) ∙ s .if2 .taken))
+    c .unskewed .ensures
+    ∙ by-scale _ (sym (i .before .is-identity .ensures) ∙ i .if1 .left) (sym (s .before .is-scale-translate .ensures) ∙ s .if2 .taken)
 
 returns-3 : tie.Need-returns-3
 returns-3 c =
@@ -24,4 +23,4 @@ returns-3 c =
     ∙ by-determinant _ (sym (i .before .is-identity .ensures) ∙ i .if1 .left) (sym (s .before .is-scale-translate .ensures) ∙ s .if2 .left)
 
 pub invert-spec : {M : Type 1} → statement M
-invert-spec = tie.close (tie.spec (λ c κs. tt) (λ c κs. tt) returns (λ c κs. tt) (λ c κs. tt) (λ c κs. tt) returns-2 (λ c κs. tt) returns-3)
+invert-spec = tie.close (tie.spec (λ c κs. tt) (λ c κs. tt) returns (λ c κs. tt) (λ c κs. tt) returns-2 (λ c κs. tt) returns-3)
