@@ -3,6 +3,7 @@
 // stand here.
 use crate::flags;
 use crate::inputs::Inputs;
+use crate::inverse::inverse;
 use crate::of_conics::*;
 use crate::of_curves::*;
 use crate::of_transforms::*;
@@ -196,16 +197,16 @@ pub const CALLS: &[Call] = &[
         o.number(number);
     }, theirs: |c, o| {
         let t = matrix(&c.f);
-        match t.invert() {
-            Some(r) => {
+        match inverse(&t) {
+            Ok(r) => {
                 row(o, r, t.is_identity());
                 o.flag(flags::some_lost(flags::of_inverse(&t)));
                 o.number(0);
             }
-            None => {
+            Err(number) => {
                 o.untouched(0, 6);
                 o.flag(FLAG_STOOD);
-                o.number(if original::transform::inv_determinant(&t).is_none() { 6 } else { 7 });
+                o.number(number);
             }
         }
     } },

@@ -1,12 +1,13 @@
 // Every exported call but those for dates and journals, which have judges of their own, beside the original, in one process, on
-// inputs from a seed. See calls.rs for what is compared, flags.rs for what the original does not say of its rounding, outputs.rs
-// for what counts as the same, promise.rs for what is tested beside it, and levels.rs for what is counted. Some of the modules
-// serve the list alone.
+// inputs from a seed. See calls.rs for what is compared, flags.rs for what the original does not say of its rounding, inverse.rs
+// for which inverses are refused, outputs.rs for what counts as the same, promise.rs for what is tested beside it, and levels.rs
+// for what is counted. Some of the modules serve the list alone.
 #![allow(dead_code)]
 
 mod calls;
 mod flags;
 mod inputs;
+mod inverse;
 mod levels;
 mod of_conics;
 mod of_curves;

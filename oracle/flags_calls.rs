@@ -1,5 +1,6 @@
 // The calls that are judged: what is given to them, what they leave, and what the original and the flags of flags.rs have.
 use crate::flags;
+use crate::inverse::{entries, inverse};
 use crate::*;
 use original::Transform;
 
@@ -64,15 +65,29 @@ pub fn transform(m: &[f32; 6]) -> Transform {
     Transform::from_row(m[0], m[1], m[2], m[3], m[4], m[5])
 }
 
-fn row(t: Transform) -> [f32; 6] {
-    [t.sx, t.ky, t.kx, t.sy, t.tx, t.ty]
+impl Left {
+    // The same number, flag and six numbers. Any NaN that is given equals any, and beside a refusal all is kept to the bit.
+    pub fn same(&self, judge: &Left) -> bool {
+        let given = judge.number == NZ_OK;
+        let numbers = self.m.iter().zip(&judge.m).all(|(a, b)| a.to_bits() == b.to_bits() || given && a.is_nan() && b.is_nan());
+        numbers && (self.number, self.flag, self.beside) == (judge.number, judge.flag, judge.beside)
+    }
 }
 
-impl Left {
-    // The same number, flag and six numbers, any NaN being equal to any.
-    pub fn same(&self, judge: &Left) -> bool {
-        let numbers = self.m.iter().zip(&judge.m).all(|(a, b)| a.to_bits() == b.to_bits() || a.is_nan() && b.is_nan());
-        numbers && (self.number, self.flag, self.beside) == (judge.number, judge.flag, judge.beside)
+// A call that did not leave what it must.
+pub struct Difference {
+    to: To,
+    stood: u8,
+    ours: Left,
+    judge: Left,
+}
+
+impl Difference {
+    pub fn show(&self, class: &str, g: &Given) {
+        let bits = |m: &[f32; 6]| bits(m).map(|x| format!("{x:08x}")).join(" ");
+        println!("{class}: {:?}, result {:?}, flag stood at {}", g.call, self.to, self.stood);
+        println!("    of {:?} and {:?}\n    bits {} and {}", g.m, g.other, bits(&g.m), bits(&g.other));
+        println!("    {:?}\n    not {:?}", self.ours, self.judge);
     }
 }
 
@@ -109,7 +124,7 @@ impl Given {
         }
     }
 
-    // What the original gives, or the number of the refusal.
+    // What the original gives, and of an inverse the rule, or the number of the refusal.
     pub fn theirs(&self) -> Result<[f32; 6], u32> {
         let (t, o) = (transform(&self.m), &self.other);
         let product = match self.call {
@@ -119,14 +134,9 @@ impl Given {
             PostScale => t.post_scale(o[0], o[3]),
             PreTranslate => t.pre_translate(o[4], o[5]),
             PostTranslate => t.post_translate(o[4], o[5]),
-            Invert => return t.invert().map(row).ok_or_else(|| self.refusal()),
+            Invert => return inverse(&t).map(|r| entries(&r)),
         };
-        Ok(row(product))
-    }
-
-    fn refusal(&self) -> u32 {
-        let nearly = original::transform::inv_determinant(&transform(&self.m)).is_none();
-        if nearly { NZ_NEARLY_SINGULAR } else { NZ_INVERSE_NOT_FINITE }
+        Ok(entries(&product))
     }
 
     // What has to be left of that: beside a refusal all keeps its contents.
@@ -135,6 +145,19 @@ impl Given {
             Ok(m) => Left { number: NZ_OK, m, flag: flag as u8, beside: false },
             Err(number) => Left { number, m: self.before(to), flag: stood, beside: false },
         }
+    }
+
+    // The first of two calls, if there is one, that left something else, when that is spoiled: one with the result in a place of
+    // its own, where the flag stood at true, and one in place, where it stood at false.
+    pub fn difference(
+        &self, theirs: &Result<[f32; 6], u32>, flag: bool, over: To, spoil: impl Fn(To, u8, &mut Left),
+    ) -> Option<Difference> {
+        [(To::Apart, 1), (over, 0)].into_iter().find_map(|(to, stood)| {
+            let mut ours = self.ours(to, stood);
+            spoil(to, stood, &mut ours);
+            let judge = self.expected(theirs, flag, to, stood);
+            (!ours.same(&judge)).then_some(Difference { to, stood, ours, judge })
+        })
     }
 
     // What the library leaves. The flag is lent as a byte among others, so that one that is no bool is seen, and one too long.

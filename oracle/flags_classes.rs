@@ -46,7 +46,7 @@ const fn floats(name: &'static str, make: fn(&mut Inputs) -> Given) -> Class {
     Class { name, make, must: &[Clear], beside: Beside::Floats }
 }
 
-pub const CLASSES: [Class; 32] = [
+pub const CLASSES: [Class; 33] = [
     class("whole numbers", products::whole_numbers, &[Clear]),
     class("powers of two", products::powers_of_two, &[Clear]),
     alone("one sum rounded", products::one_rounded),
@@ -77,6 +77,7 @@ pub const CLASSES: [Class; 32] = [
     class("inverse: not quite singular", inverses::not_quite_singular, &[Set]),
     class("inverse: not finite", inverses::not_finite, &[Refused7]),
     floats("inverse: no skew", inverses::no_skew),
+    class("inverse: no skew, not finite", inverses::no_skew_not_finite, &[Refused7]),
     class("inverse: of what does nothing", inverses::nothing, &[Clear]),
     class("inverse: any numbers", inverses::any, &[Set, Clear, Refused6, Refused7]),
 ];

@@ -112,8 +112,14 @@ pub fn plain(i: &mut Inputs) -> Given {
     inverse_of(row(i, |i| wide(i, -3, 3)))
 }
 
+// One of the skews at least is not 0.
 pub fn small_whole_numbers(i: &mut Inputs) -> Given {
-    inverse_of(row(i, |i| i.below(9) as f32 - 4.0))
+    loop {
+        let m = row(i, |i| i.below(9) as f32 - 4.0);
+        if skews(&m) {
+            return inverse_of(m);
+        }
+    }
 }
 
 // A determinant of 0; of about 2^-37 or less; of 2^-36; and of somewhat more, which is rounded to that.
@@ -151,11 +157,27 @@ pub fn not_finite(i: &mut Inputs) -> Given {
     inverse_of(m)
 }
 
-// A scale of 0 among them, which is inverted unchecked.
-pub fn no_skew(i: &mut Inputs) -> Given {
-    let number = |i: &mut Inputs| [wide(i, -60, 60), 1.0, wide(i, -60, 60), i.zero()][i.below(4) as usize];
+// A scale, a move, or both.
+fn unskewed(i: &mut Inputs) -> [f32; 6] {
+    let number = |i: &mut Inputs| [wide(i, -60, 60), 1.0, wide(i, -60, 60)][i.below(3) as usize];
     let (x, y) = (number(i), number(i));
-    inverse_of([x, i.zero(), i.zero(), y, wide(i, -60, 60), wide(i, -60, 60)])
+    [x, i.zero(), i.zero(), y, wide(i, -60, 60), wide(i, -60, 60)]
+}
+
+pub fn no_skew(i: &mut Inputs) -> Given {
+    inverse_of(unskewed(i))
+}
+
+// A scale of 0 or one whose inverse is too large, a move that is too large over its scale, and a move that was not finite before.
+pub fn no_skew_not_finite(i: &mut Inputs) -> Given {
+    let (mut m, k) = (unskewed(i), i.below(2) as usize);
+    match i.below(4) {
+        0 => m[3 * k] = i.zero(),
+        1 => m[3 * k] = sign(i) * f32::from_bits(1 + i.below(0x20_0000) as u32),
+        2 => (m[3 * k], m[4 + k]) = (wide(i, -60, -20), wide(i, 110, 127)),
+        _ => m[4 + k] = infinity_or_nan(i),
+    }
+    inverse_of(m)
 }
 
 pub fn nothing(i: &mut Inputs) -> Given {

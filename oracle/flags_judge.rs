@@ -11,9 +11,10 @@ mod flags_inverses;
 mod flags_products;
 mod flags_spoils;
 mod inputs;
+mod inverse;
 
-use flags_calls::{Call, Given, Left, To, CALLS};
-use flags_classes::{Beside, Class, Outcome, CLASSES, OUTCOMES};
+use flags_calls::{Call, Given, To, CALLS};
+use flags_classes::{Beside, Outcome, CLASSES, OUTCOMES};
 use flags_spoils::{floats_rounded, Spoil, SPOILS};
 use inputs::Inputs;
 
@@ -56,40 +57,23 @@ fn can_be_alone(call: Call) -> std::ops::Range<usize> {
     }
 }
 
-fn show(class: &Class, g: &Given, to: To, stood: u8, ours: &Left, judge: &Left) {
-    let bits = |m: &[f32; 6]| m.map(|x| format!("{:08x}", x.to_bits())).join(" ");
-    println!("{}: {:?}, result {to:?}, flag stood at {stood}", class.name, g.call);
-    println!("    of {:?} and {:?}\n    bits {} and {}", g.m, g.other, bits(&g.m), bits(&g.other));
-    println!("    {ours:?}\n    not {judge:?}");
-}
-
 impl Judge {
     fn new(spoil: Spoil, shown: u64) -> Judge {
         let tallies = CLASSES.iter().map(|_| Tally::default()).collect();
         Judge { spoil, shown, inputs: 0, tallies, alone: Default::default() }
     }
 
-    // One input: a call with the result in a place of its own, where the flag stood at true, and one in place, where it stood at
-    // false.
     fn judge(&mut self, k: usize, g: &Given, over: To) {
         let (list, n) = g.narrowed();
         let flag = list[..n].iter().any(|x| flags::lost(*x));
         let theirs = g.theirs();
-        let mut same = true;
-        for (to, stood) in [(To::Apart, 1), (over, 0)] {
-            let mut ours = g.ours(to, stood);
-            self.spoil.spoil(g, to, stood, &mut ours);
-            let judge = g.expected(&theirs, flag, to, stood);
-            if same && !ours.same(&judge) {
-                same = false;
-                if self.shown > 0 {
-                    self.shown -= 1;
-                    show(&CLASSES[k], g, to, stood, &ours, &judge);
-                }
-            }
+        let difference = g.difference(&theirs, flag, over, |to, stood, left| self.spoil.spoil(g, to, stood, left));
+        if let Some(d) = difference.as_ref().filter(|_| self.shown > 0) {
+            self.shown -= 1;
+            d.show(CLASSES[k].name, g);
         }
         self.count(k, g, theirs.map(|_| flag), &list[..n]);
-        self.tallies[k].differences += !same as u64;
+        self.tallies[k].differences += difference.is_some() as u64;
     }
 
     fn count(&mut self, k: usize, g: &Given, answer: Result<bool, u32>, list: &[f64]) {

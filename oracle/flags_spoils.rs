@@ -55,8 +55,8 @@ const UNSKEWED: &[&str] = &["neither skews", "inverse: no skew"];
 const NO_PART: &[&str] = &["one does nothing", "inverse: of what does nothing"];
 const ALL_CLEAR: &[&str] = &["whole numbers", "neither skews", "one does nothing", "inverse: no skew", "inverse: of what does nothing"];
 const SINGULAR: &[&str] = &["inverse: nearly singular"];
-const NO_INVERSE: &[&str] = &["inverse: not finite"];
-const REFUSED: &[&str] = &["inverse: nearly singular", "inverse: not finite"];
+const NO_INVERSE: &[&str] = &["inverse: not finite", "inverse: no skew, not finite"];
+const REFUSED: &[&str] = &["inverse: nearly singular", "inverse: not finite", "inverse: no skew, not finite"];
 
 // Each with the classes in which it must be seen.
 pub const SPOILS: [(Spoil, &[&str], &str); 36] = [

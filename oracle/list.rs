@@ -10,6 +10,7 @@
 mod calls;
 mod flags;
 mod inputs;
+mod inverse;
 mod lone_losses;
 mod minus_zeros;
 mod of_conics;

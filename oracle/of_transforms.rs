@@ -2,6 +2,7 @@
 use crate::calls::*;
 use crate::flags;
 use crate::inputs::Inputs;
+use crate::inverse::entries;
 use crate::outputs::{buffer, Output};
 use original::{Point, Transform};
 
@@ -68,7 +69,7 @@ pub fn void(out: &mut Output, from: &[f32; 6], call: impl Fn(*const [f32; 6], *m
 }
 
 pub fn row(out: &mut Output, t: Transform, copied: bool) {
-    let m = [t.sx, t.ky, t.kx, t.sy, t.tx, t.ty];
+    let m = entries(&t);
     if copied { out.copied(&m) } else { out.computed(&m) }
 }
 
