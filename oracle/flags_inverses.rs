@@ -48,7 +48,7 @@ pub fn determinant_rounded(i: &mut Inputs) -> Given {
 }
 
 // The number of which entry k of an inverse is made, of the first four, and the other one on its diagonal.
-fn number_of(k: usize) -> [usize; 2] {
+pub fn number_of(k: usize) -> [usize; 2] {
     [[3, 0], [1, 2], [2, 1], [0, 3]][k]
 }
 
@@ -71,7 +71,7 @@ fn no_multiple(i: &mut Inputs, k: usize) -> [f32; 6] {
 }
 
 // The number of entry k has no part in the determinant, which is 2^2e or that below 0.
-fn outside(i: &mut Inputs, k: usize, number: f32, e: i32) -> [f32; 6] {
+pub fn outside(i: &mut Inputs, k: usize, number: f32, e: i32) -> [f32; 6] {
     let mut m = std::array::from_fn(|_| power(i, e, e));
     let [place, partner] = number_of(k);
     (m[place], m[partner]) = (number, i.zero());
