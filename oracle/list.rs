@@ -1,8 +1,8 @@
 // Writes the list that the program `replay` reads: for each call of the table in calls.rs, inputs from a seed and what
-// the original gives on them; and then the same of the inputs of minus_zeros.rs and of lone_losses.rs. A record is 20
-// words of 32 bits, the lowest byte first: the place of the call in the table, the twelve floats, the double, the two
-// lengths and the level or ceiling of its input, and the two sums over its output. Before the records of a call, or of a
-// group of inputs by hand, stands one that names them: 2^32 - 1, the name, and where that ends in word 19.
+// the original gives on them; and then the same of the inputs of minus_zeros.rs, of lone_losses.rs and of not_finite.rs.
+// A record is 20 words of 32 bits, the lowest byte first: the place of the call in the table, the twelve floats, the
+// double, the two lengths and the level or ceiling of its input, and the two sums over its output. Before the records of
+// a call, or of a group of inputs by hand, stands one that names them: 2^32 - 1, the name, and where that ends in word 19.
 // Writes to standard error what the program must then write.
 // Some of the modules serve the comparison alone.
 #![allow(dead_code)]
@@ -13,6 +13,7 @@ mod inputs;
 mod inverse;
 mod lone_losses;
 mod minus_zeros;
+mod not_finite;
 mod of_conics;
 mod of_curves;
 mod of_transforms;
@@ -95,4 +96,5 @@ fn main() {
         write(&mut list, title, &cases);
     }
     write(&mut list, lone_losses::TITLE, &lone_losses::cases());
+    write(&mut list, not_finite::TITLE, &not_finite::cases());
 }

@@ -5,19 +5,19 @@ use crate::flags;
 use crate::of_transforms::matrix;
 
 const PRODUCT: &str = "transform: pre_concat and post_concat";
-const INVERSE: &str = "transform: invert";
+pub const INVERSE: &str = "transform: invert";
 
 // The float above 1: its square is no float.
 const W: f32 = f32::from_bits(0x3f80_0001);
 
-const fn case(m: [f32; 6], b: [f32; 6]) -> Case {
+pub const fn case(m: [f32; 6], b: [f32; 6]) -> Case {
     Case { f: [m[0], m[1], m[2], m[3], m[4], m[5], b[0], b[1], b[2], b[3], b[4], b[5]], x: 0.0, len: [0; 2], level: 0 }
 }
 
 const ACROSS: [f32; 6] = [W, 0.0, 0.0, 1.0, 0.0, 0.0];
 const UP: [f32; 6] = [1.0, 0.0, 0.0, W, 0.0, 0.0];
-const NOTHING: [f32; 6] = [0.0; 6];
-const LARGE: f32 = f32::from_bits(0x7180_0000); // 2^100
+pub const NOTHING: [f32; 6] = [0.0; 6];
+pub const LARGE: f32 = f32::from_bits(0x7180_0000); // 2^100
 
 const CASES: &[(&str, Case)] = &[
     (PRODUCT, case(ACROSS, [W, 0.0, 1.0, 1.0, 0.0, 0.0])),
