@@ -34,7 +34,7 @@
 #include <stdbool.h>
 #include <stdint.h>
 
-#define NZ_VERSION "0.6.0"
+#define NZ_VERSION "0.7.0"
 
 /* the answers */
 #define NZ_OK 0u                  /* none below applies */
@@ -44,7 +44,7 @@
 #define NZ_BAD_TOLERANCE 4u       /* tolerance below 0 or not finite */
 #define NZ_CURVATURE_UNDEFINED 5u /* the curvature is greatest at a quotient that is NaN */
 #define NZ_NEARLY_SINGULAR 6u     /* a skewed matrix has a determinant that is nearly zero */
-#define NZ_INVERSE_NOT_FINITE 7u  /* a skewed matrix, not 6, has an inverse with an entry that is not finite */
+#define NZ_INVERSE_NOT_FINITE 7u  /* an inverse has an entry that is not finite, and 6 does not apply */
 #define NZ_OUT_OF_RANGE 8u        /* t outside its range, or NaN */
 #define NZ_ODD_LENGTH 9u          /* in mapping, a buffer of points as numbers has odd length; in a lookup, a date table has */
 #define NZ_ENTRY_OUT_OF_RANGE 10u /* a number of a date table, before it is rounded, is not from 0 to NZ_MAX_ENTRY */
@@ -275,10 +275,11 @@ void nz_transform_post_scale(const float m[6], float sx, float sy, float out[6],
 void nz_transform_pre_translate(const float m[6], float tx, float ty, float out[6], bool *rounded);
 void nz_transform_post_translate(const float m[6], float tx, float ty, float out[6], bool *rounded);
 
-/* The matrix that undoes m. A matrix without skew is inverted unchecked: a scale of 0 gives infinities and NaN.
+/* The matrix that undoes m. What is given is finite in all six numbers; an inverse that is not is refused, as that of a scale of
+ * 0, or of a move by an infinity. A matrix that does nothing is given as it is.
  *   *rounded is set as by a product: of a matrix that skews its determinant is narrowed, for its test, and then the six entries
  * of the inverse; else nothing is narrowed, and it is false. Beside a refusal it keeps its contents, as out does.
- *   Answers NZ_OK, NZ_NEARLY_SINGULAR or NZ_INVERSE_NOT_FINITE. */
+ *   Answers NZ_OK, NZ_NEARLY_SINGULAR, which only a matrix that skews has, and before the other, or NZ_INVERSE_NOT_FINITE. */
 uint32_t nz_transform_invert(const float m[6], float out[6], bool *rounded);
 
 /* Maps one point where it stands. */
