@@ -1,7 +1,7 @@
--- An identity is finite in each of its entries, so that it is never refused; and so is every inverse that `invert` gives. Assumes nothing.
+-- An identity is finite in each of its entries; so is every inverse that is given; and those of zeros are not. Assumes nothing.
 use mathlib.Core.Path.{_≡_, refl, sym, ap, _∙_}
 use mathlib.Core.Bool.{Bool, true, false, cond, _&&_, _||_, Bool·beq, true≢false, false≢true}
-use lib.Ieee.{Float, nan, inf, fin, ne, ofBits, ofFields}
+use lib.Ieee.{Float, nan, inf, fin, ne, neg, mul, div, ofBits, ofFields}
 use lib.Ieee.Scale.{finite}
 use Rattle.float_laws.specs.Formula.{zero32, one32}
 use Rattle.float_laws.specs.Narrow.{someLost}
@@ -10,8 +10,10 @@ use Rattle.transform.specs.declared.Transform.{Transform}
 use Rattle.transform.specs.declared.invert.Inversion.{Inversion}
 use Rattle.transform.specs.declared.invert.Inversion.the-variants.{Inverted, NearlySingular, NotFinite}
 use Rattle.transform.specs.Kinds.{differs, hasScale, hasSkew, hasTranslate, hasOnly, isIdentity, isFinite}
+use Rattle.transform.specs.Row.{scaleOf}
 use Rattle.transform.specs.Told.{computedOf}
-use Rattle.transform.specs.Inverse.{invertOf, inverseOf, checkedOf, invertNarrows, nearlySingular}
+use Rattle.transform.specs.Inverse.{invertOf, inverseOf, checkedOf, invertNarrows, nearlySingular, unskewedInverse}
+use Rattle.transform.specs.Laws.{GivenIsFinite, ZerosAreNotFinite}
 
 -- what equals a finite number is finite
 same-finite : (x n : Float) → finite n ≡ true → ne x n ≡ false → finite x ≡ true
@@ -63,10 +65,14 @@ checked-finite inverse rounded = go (isFinite inverse) refl
     go true e = e
     go false e = refl
 
-pub given-finite : (t : Transform) (c : Computed) → invertOf t ≡ Inverted c → isFinite (c .transform) ≡ true
+pub given-finite : GivenIsFinite
 unfolding invertOf
 given-finite t c e = ap givenFinite (sym e) ∙ go (hasSkew t && nearlySingular t)
   where
     go : (near : Bool) → givenFinite (cond near NearlySingular (checkedOf (inverseOf t) (someLost (invertNarrows t)))) ≡ true
     go true = refl
     go false = checked-finite (inverseOf t) (someLost (invertNarrows t))
+
+pub zeros-not-finite : ZerosAreNotFinite
+unfolding invertOf inverseOf checkedOf hasOnly unskewedInverse isFinite scaleOf ofBits ofFields div mul neg ne
+zeros-not-finite = (refl, refl)

@@ -4,12 +4,12 @@ use mathlib.Core.Path.{_≡_, refl}
 use mathlib.Core.Bool.{Bool, true, false, not, cond, _&&_, _||_, Bool·beq, true≢false, false≢true}
 use Rattle.float_laws.specs.Narrow.{kept, someLost}
 use Rattle.transform.specs.declared.Transform.{Transform}
-use Rattle.transform.specs.declared.invert.Inversion.the-variants.{Inverted, NearlySingular}
+use Rattle.transform.specs.declared.invert.Inversion.the-variants.{NearlySingular}
 use Rattle.transform.specs.declared.invert.InvDeterminant.the-variants.{Is, NearlyZero}
 use Rattle.transform.specs.Kinds.{hasScale, hasSkew, hasTranslate, hasOnly, isIdentity, isScaleTranslate}
-use Rattle.transform.specs.Told.{computedOf}
 use Rattle.transform.specs.Inverse.{invertOf, inverseOf, invertNarrows, unskewedInverse, skewedInverse, skewedScaled, invDeterminant}
 use Rattle.transform.specs.Inverse.{skewedInversion, checkedOf, determinant, nearlySingular, overDeterminant}
+use Rattle.transform.specs.Laws.{IdentityIsGiven}
 use Rattle.transform.proofs.Finite.{nothing, identity-finite}
 
 -- ---- which parts a branch has
@@ -33,7 +33,7 @@ clear : (t : Transform) → hasSkew t ≡ false → someLost (invertNarrows t) �
 unfolding invertNarrows someLost
 clear t s = rw s
 
-pub by-identity : (t : Transform) → isIdentity t ≡ true → Inverted (computedOf t false) ≡ invertOf t
+pub by-identity : IdentityIsGiven
 unfolding invertOf inverseOf checkedOf hasOnly
 by-identity t i =
     let s = nothing (hasScale t) (hasSkew t) (hasTranslate t) i .1 in

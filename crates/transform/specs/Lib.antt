@@ -4,3 +4,4 @@ pub mod Told
 pub mod Product
 pub mod Inverse
 pub mod Mapped
+pub mod Laws

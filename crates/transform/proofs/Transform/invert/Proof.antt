@@ -6,7 +6,7 @@ use Rattle.transform.proofs.Transform.invert.Tie as tie
 
 returns : tie.Need-returns
 returns c =
-    rw (c .exactly .ensures) (by-identity _ (sym (c .before .before .is-identity .ensures) ∙ c .before .if1 .taken))
+    rw (c .exactly .ensures, by-identity _ (sym (c .before .before .is-identity .ensures) ∙ c .before .if1 .taken))
 
 returns-2 : tie.Need-returns-2
 returns-2 c =
