@@ -101,20 +101,22 @@ fn inverses() {
     );
 }
 
-fn refused_inverses() {
-    let infinity = 1.0 / 0.0;
+fn refused_skewed() {
     inverted(
         b"from_row(1,1,1,1,0,0) inverted:",
         Transform::from_row(1.0, 1.0, 1.0, 1.0, 0.0, 0.0),
     );
     inverted(
         b"from_row(1,1,1,1,infinity,0) inverted:",
-        Transform::from_row(1.0, 1.0, 1.0, 1.0, infinity, 0.0),
+        Transform::from_row(1.0, 1.0, 1.0, 1.0, 1.0 / 0.0, 0.0),
     );
     inverted(
         b"from_row(0,0.5,0.5,0,2^127,0) inverted:",
         Transform::from_row(0.0, 0.5, 0.5, 0.0, 1.7014118346046923e38, 0.0),
     );
+}
+
+fn refused_unskewed() {
     inverted(
         b"from_scale(0,1) inverted:",
         Transform::from_scale(0.0, 1.0),
@@ -140,7 +142,7 @@ fn refused_inverses() {
     );
     inverted(
         b"from_translate(0,infinity) inverted:",
-        Transform::from_translate(0.0, infinity),
+        Transform::from_translate(0.0, 1.0 / 0.0),
     );
 }
 
@@ -165,6 +167,7 @@ fn products() {
 pub fn show() {
     mappings();
     inverses();
-    refused_inverses();
+    refused_skewed();
+    refused_unskewed();
     products();
 }
