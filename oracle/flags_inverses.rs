@@ -157,7 +157,7 @@ pub fn not_finite(i: &mut Inputs) -> Given {
     inverse_of(m)
 }
 
-// A scale, a move, or both.
+// A move, and mostly a scale.
 fn unskewed(i: &mut Inputs) -> [f32; 6] {
     let number = |i: &mut Inputs| [wide(i, -60, 60), 1.0, wide(i, -60, 60)][i.below(3) as usize];
     let (x, y) = (number(i), number(i));
