@@ -1,8 +1,10 @@
 // The clock: cutting, mapping, products, inverses, roots and narrowing beside the original, and dates and journals beside plain
 // Rust, in one process: medians of 401 batches, in nanoseconds a call, or of journals in bytes a second. Cuts are timed with the
-// buffer cleared before each call, on both sides, and not cleared; and what a point costs at level 4 and at level 6, in turns.
+// buffer cleared before each call, on both sides, and not cleared; and what a point costs at level 4 and at level 6, in turns; and
+// how far the time of a root depends on its input.
 mod dates;
 mod journal;
+mod roots;
 
 use original::path_geometry::Conic;
 use original::{Point, Transform};
@@ -250,6 +252,7 @@ fn main() {
     mapping();
     products();
     ground();
+    roots::all();
     dates::all();
     journal::all();
 }

@@ -39,12 +39,31 @@ fn narrowed(name: &[u8], x: f64) {
     print::end();
 }
 
+fn whole(name: &[u8], n: u32) {
+    print::text(name);
+    print::count(n as u64);
+    print::end();
+}
+
 pub fn show() {
     root(b"root of 4:", 4.0);
     root(b"root of 2:", 2.0);
     root(b"root of 2^-149:", 1.0e-45);
     root(b"root of -0:", -0.0);
     wide_root(b"f64 root of -0:", -0.0);
+    whole(
+        b"stored root of 256 * 65536:",
+        whole_roots::table_entry(256),
+    );
+    whole(
+        b"stored root of 257 * 65536:",
+        whole_roots::table_entry(257),
+    );
+    whole(
+        b"stored root of 1023 * 65536:",
+        whole_roots::table_entry(1023),
+    );
+    whole(b"stored roots read alike:", whole_roots::read_alike());
     narrowed(b"16777217 narrowed:", 16777217.0);
     narrowed(b"16777219 narrowed:", 16777219.0);
     narrowed(b"-2^-200 narrowed:", -6.223015277861142e-61);

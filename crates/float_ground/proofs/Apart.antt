@@ -25,11 +25,11 @@ pub record Shift (m z : ℕ) : Type 0 where
   pub under : m * 2 ^ z < 2 ^ 55
   pub clear : (p : ℕ) → p ≤ 53 → m < 2 ^ p → m * 2 ^ z % 2 ^ (55 - p) ≡ 0
 
-pow-lt-back : (i p : ℕ) → 2 ^ i < 2 ^ p → i < p
+pub pow-lt-back : (i p : ℕ) → 2 ^ i < 2 ^ p → i < p
 pow-lt-back i p h = lt-of-not-le (λ (g : p ≤ i). lt-irrefl (2 ^ i) (lt-of-lt-of-le h (pow-mono g)))
 
 -- the digits below 2 ^ k of a number shifted by at least k
-tail : (m z k : ℕ) → k ≤ z → m * 2 ^ z % 2 ^ k ≡ 0
+pub tail : (m z k : ℕ) → k ≤ z → m * 2 ^ z % 2 ^ k ≡ 0
 tail m z k h =
     let split : 2 ^ (z - k) * 2 ^ k ≡ 2 ^ z = sym (pow-add 2 (z - k) k) ∙ ap (λ (y : ℕ). 2 ^ y) (sub-add-cancel h) in
     ap (λ (y : ℕ). m * y % 2 ^ k) (sym split) ∙ ap (λ (y : ℕ). y % 2 ^ k) (sym (mul-assoc m (2 ^ (z - k)) (2 ^ k)))
@@ -69,13 +69,13 @@ fields-zero f s x t h g =
     let z : t ≡ 0 = omega arith in
     rw (e, z)
 
-fields-low : (f : Format) (s : Bool) (x t : ℕ) → x ≤ 0 → HasValue (ofFields f s x t) s (t * 2 ^ 0) (2 ^ low f)
+pub fields-low : (f : Format) (s : Bool) (x t : ℕ) → x ≤ 0 → HasValue (ofFields f s x t) s (t * 2 ^ 0) (2 ^ low f)
 unfolding ofFields
 fields-low f s x t h =
     let e : x ≡ 0 = omega arith in
     rw e (odd-sign (prec f) s t 0 (low f))
 
-fields-high : (f : Format) (s : Bool) (x t : ℕ) → 0 < x → (x ≡ ones f → ⊥) → HasValue (ofFields f s x t) s ((t + hid f) * 2 ^ (x - 1)) (2 ^ low f)
+pub fields-high : (f : Format) (s : Bool) (x t : ℕ) → 0 < x → (x ≡ ones f → ⊥) → HasValue (ofFields f s x t) s ((t + hid f) * 2 ^ (x - 1)) (2 ^ low f)
 unfolding ofFields
 fields-high f s zero t p n = absurd (lt-irrefl 0 p)
 fields-high f s (suc x) t p n =

@@ -1,8 +1,8 @@
--- Laws over a format, on conversions and roots of what was taken apart, kind by kind. Assumes nothing.
-use mathlib.Core.Path.{_≡_, refl, sym, ap, _∙_, subst}
-use mathlib.Core.Bool.{Bool, true, false, cond, false≢true}
-use Prim.Native.Nat.{ℕ, zero, suc, _+_, _*_, _^_, _≤_, _<_, zero-le}
-use native.Mathlib.Nat.{le-refl, lt-irrefl, zero-mul, mul-pos, lt-of-lt-of-le}
+-- Laws over a format, on conversions of what was taken apart, kind by kind. Assumes nothing.
+use mathlib.Core.Path.{_≡_, refl, sym, ap, _∙_}
+use mathlib.Core.Bool.{Bool, true, false, cond}
+use Prim.Native.Nat.{ℕ, zero, _+_, _*_, _^_, _≤_, _<_, zero-le}
+use native.Mathlib.Nat.{le-refl}
 use native.Mathlib.Omega.{arith}
 use lib.IntN.{pos}
 use lib.Pow.{pow-pos}
@@ -14,9 +14,8 @@ use Rattle.float_ground.specs.declared.parts.Parts.{Parts}
 use Rattle.float_ground.specs.declared.parts.Apart.{Apart}
 use Rattle.float_ground.specs.declared.parts.Apart.the-variants.{Nan, Infinite, Zero, Number}
 use Rattle.float_ground.specs.declared.pack.Pattern.the-variants.{Nothing, Bits}
-use Rattle.float_ground.specs.Parts.{TidyApart, Stands, StandsApart, TakenApart, Packed, Rooted, Plain, RoundedTo, RootTo}
+use Rattle.float_ground.specs.Parts.{TidyApart, TakenApart, Packed, Plain, RoundedTo}
 use Rattle.float_laws.specs.Narrow.{roundTo}
-use Rattle.float_laws.specs.Root.{rootOf}
 use Rattle.float_laws.proofs.Patterns.{plain-pattern}
 use Rattle.float_laws.proofs.Sign.{infinite}
 
@@ -27,16 +26,6 @@ unfolding roundTo
 roundTo-val f nan s a c C h = absurd h
 roundTo-val f (inf t) s a c C h = absurd h
 roundTo-val f (fin t m e) s a c C h = round-same f t (m * up e) (down e) a c (down-pos e) C (h .1) ∙ ap (λ (b : Bool). round f b a c) (h .0)
-
--- a value below zero has no root
-negative-root : (f : Format) (x : Float) (a c : ℕ) → 0 < a → HasValue x true a c → nan ≡ rootOf f x
-unfolding rootOf
-negative-root f nan a c A h = absurd h
-negative-root f (inf t) a c A h = absurd h
-negative-root f (fin false m e) a c A h = absurd (false≢true (h .0))
-negative-root f (fin true zero e) a c A h =
-    absurd (lt-irrefl 0 (subst (λ (z : ℕ). 0 < z) (sym (h .1) ∙ ap (λ (z : ℕ). z * c) (zero-mul (up e)) ∙ zero-mul c) (mul-pos A (down-pos e))))
-negative-root f (fin true (suc m) e) a c A h = refl
 
 -- ---- the patterns
 
@@ -50,7 +39,7 @@ plain f s r h = (plain-pattern f s r h, room f s h)
     room binary64 false h = omega arith
 
 -- a zero of either sign
-zero-bits : (f : Format) (s : Bool) → ofBits f (cond s (top f) 0 + 0) ≡ fin s 0 (pos 0)
+pub zero-bits : (f : Format) (s : Bool) → ofBits f (cond s (top f) 0 + 0) ≡ fin s 0 (pos 0)
 unfolding ofBits
 zero-bits binary32 true = refl
 zero-bits binary32 false = refl
@@ -84,42 +73,6 @@ rounded-number f n r p =
       is = λ g x t. p .is (n .negative) ∙ sym (roundTo-val f x (n .negative) (n .significand * 2 ^ n .exponent) (2 ^ 1128) (pow-pos 1128) (t .1));
     }
 
--- ---- roots
-
-pub root-nan : (f : Format) → RootTo f Nan Nothing
-unfolding rootOf
-root-nan f = record { plain = tt; is = λ x e. sym (ap (rootOf f) e) }
-
-pub root-infinite : (f : Format) → RootTo f (Infinite false) (Bits (cond false (top f) 0 + ones f * hid f))
-unfolding rootOf
-root-infinite f = record { plain = plain f false (ones f * hid f) (le-refl (ones f * hid f)); is = λ x e. infinite f false ∙ sym (ap (rootOf f) e) }
-
-pub root-below-infinite : (f : Format) → RootTo f (Infinite true) Nothing
-unfolding rootOf
-root-below-infinite f = record { plain = tt; is = λ x e. sym (ap (rootOf f) e) }
-
-pub root-zero : (f : Format) (s : Bool) → RootTo f (Zero s) (Bits (cond s (top f) 0 + 0))
-unfolding rootOf
-root-zero f s = record { plain = plain f s 0 zero-le; is = λ x e. zero-bits f s ∙ sym (ap (rootOf f) e) }
-
-pub root-below-zero : (f : Format) (n : Parts) → n .negative ≡ true → Stands f n → RootTo f (Number n) Nothing
-root-below-zero f n b S =
-    record {
-      plain = tt;
-      is =
-          λ x t. negative-root f x (n .significand * 2 ^ n .exponent) (2 ^ 1128)
-          (mul-pos (lt-of-lt-of-le (pow-pos 54) (S .tidy .at-least)) (pow-pos (n .exponent)))
-          (subst (λ (s : Bool). HasValue x s (n .significand * 2 ^ n .exponent) (2 ^ 1128)) b (t .1));
-    }
-
-pub root-number : (f : Format) (n d : Parts) (r : ℕ) → n .negative ≡ false → Rooted f n d → Packed f d r →
-    RootTo f (Number n) (Bits (cond false (top f) 0 + r))
-root-number f n d r b R p =
-    record {
-      plain = plain f false r (p .most);
-      is = λ x t. p .is false ∙ R .is x (subst (λ (s : Bool). HasValue x s (n .significand * 2 ^ n .exponent) (2 ^ 1128)) b (t .1));
-    }
-
 -- ---- what a call hands on
 
 pub tidy-apart : (f : Format) (x : Float) (a : Apart) → TakenApart f x a → TidyApart a
@@ -127,9 +80,3 @@ tidy-apart f x Nan t = tt
 tidy-apart f x (Infinite s) t = tt
 tidy-apart f x (Zero s) t = tt
 tidy-apart f x (Number n) t = t .0 .tidy
-
-pub stands-apart : (f : Format) (x : Float) (a : Apart) → TakenApart f x a → StandsApart f a
-stands-apart f x Nan t = tt
-stands-apart f x (Infinite s) t = tt
-stands-apart f x (Zero s) t = tt
-stands-apart f x (Number n) t = t .0

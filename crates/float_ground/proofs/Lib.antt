@@ -2,5 +2,6 @@ pub mod Apart
 pub mod Converting
 pub mod Losses
 pub mod Packing
-pub mod Radicand
+pub mod RootKinds
 pub mod Rooting
+pub mod Shifted

@@ -1,110 +1,122 @@
--- The law of a root in normal form, over the format: a number with two more digits behind the whole root q, by which it is rounded,
--- rounds to the root that `rootOf` computes. Assumes nothing.
+-- The law of a root from whole numbers, over the format: half of g, and behind it the nearest whole number to the root of the digits, is
+-- the pattern of the root that `rootOf` computes. Assumes nothing.
 use mathlib.Core.Path.{_≡_, refl, sym, ap, _∙_}
-use mathlib.Core.Logic.{inl, inr}
-use mathlib.Core.Bool.{false}
-use Prim.Native.Nat.{ℕ, suc, _+_, _-_, _*_, _/_, _%_, _^_, _≤_, _<_, compare}
-use native.Mathlib.Nat.{le-trans, le-of-eq, lt-of-lt-of-le, zero-lt-suc, mul-assoc, mul-comm, mul-right-comm, mul-mul-mul-comm}
-use native.Mathlib.Nat.{mul-le-mul-left, mul-le-mul-right, mul-lt-mul-of-pos-right, mul-pos}
+use mathlib.Core.Logic.{_⊎_, inl, inr}
+use mathlib.Core.Bool.{Bool, true, false, not, cond}
+use Prim.Native.Nat.{ℕ, suc, _+_, _-_, _*_, _/_, _%_, _^_, _≤_, _<_}
+use native.Mathlib.Nat.{le-trans, le-of-eq, zero-add, mul-assoc, mul-pos, mul-le-mul-right}
 use native.Mathlib.Omega.{arith}
-use lib.Pow.{pow-add, pow-pos, pow-mono}
-use lib.Ieee.{Format, binary32, binary64, prec, low, nearest, units, round, hid}
-use lib.Ieee.Nearest.{closest, closest-same}
-use Rattle.float_laws.proofs.Rounding.{rounds}
-use Rattle.float_laws.proofs.Values.{cancel}
-use Rattle.float_laws.proofs.RootFunction.{IsRoot, Up, root-at, root-of}
-use Rattle.float_ground.specs.declared.parts.Parts.{Parts}
-use Rattle.float_ground.specs.Parts.{Told, Tidy, Rooted}
+use lib.Dec.{T, leb, leb→le, nleb→lt, lit<}
+use lib.Pow.{pow-add, pow-pos}
+use lib.Ieee.{Format, binary32, binary64, prec, low, hid, ones, size, units, ofBits}
+use Rattle.float_laws.specs.Root.{wholeRoot, rootOf}
+use Rattle.float_laws.proofs.Patterns.{packs, twice-hid}
+use Rattle.float_laws.proofs.Rounding.{parity}
+use Rattle.float_laws.proofs.RootFunction.{IsRoot, Up, root-is, root-at, root-of}
+use Rattle.float_ground.specs.Parts.{wide, zeros, RootBy}
+use Rattle.whole_roots.specs.Table.{radicand, nearestRoot}
+use Rattle.whole_roots.proofs.Only.{root-ge, root-lt}
+use Rattle.whole_roots.proofs.Radicand.{radicand-in}
 
--- ---- the two digits behind q
+-- ---- powers of two
 
-rounded : (q rest r : ℕ) → Told q rest r → Up q rest (closest r 4)
-rounded q rest r (inl e) =
-    let d : r / 4 ≡ q = omega (arith, e .0) in
-    let m : r % 4 ≡ 1 = omega (arith, e .0) in
-    inl (ap (λ (x : ℕ). nearest x (compare (r % 4 * 2) 4)) d ∙ ap (λ (x : ℕ). nearest q (compare (x * 2) 4)) m, e .1)
-rounded q rest r (inr e) =
-    let d : r / 4 ≡ q = omega (arith, e .0) in
-    let m : r % 4 ≡ 3 = omega (arith, e .0) in
-    inr (ap (λ (x : ℕ). nearest x (compare (r % 4 * 2) 4)) d ∙ ap (λ (x : ℕ). nearest q (compare (x * 2) 4)) m, e .1)
+join : (n a b : ℕ) → n * 2 ^ a * 2 ^ b ≡ n * 2 ^ (a + b)
+join n a b = mul-assoc n (2 ^ a) (2 ^ b) ∙ ap (λ (y : ℕ). n * y) (sym (pow-add 2 a b))
 
-pub told-in : (q rest r : ℕ) → Told q rest r → (4 * q ≤ r) × (r < 4 * suc q)
-told-in q rest r (inl e) = omega (arith, e .0)
-told-in q rest r (inr e) = omega (arith, e .0)
+square : (n a b : ℕ) → n * 2 ^ a * (2 ^ b * 2 ^ b) ≡ n * 2 ^ (a + (b + b))
+square n a b = ap (λ (y : ℕ). n * 2 ^ a * y) (sym (pow-add 2 b b)) ∙ join n a (b + b)
 
--- ---- the law: n is radicand * 4 ^ k in the right units, q the radicand's whole root, and r has q's digits and the two behind them
+-- ---- the nearest whole number is the whole root, or one more
 
-module _ (f : Format) (n r : Parts) (radicand k q t : ℕ) (some : 0 < n .significand) (i : IsRoot radicand q) (full : hid f ≤ q)
-    (few : q < 2 ^ prec f) (u : Told q (radicand - q * q) t)
-    (room : 1128 ≤ k + low f) (scale : n .significand * 2 ^ n .exponent * 2 ^ 1128 ≡ radicand * (2 ^ k * 2 ^ k))
-    (significand : r .significand ≡ t * 2 ^ (53 - prec f)) (exponent : r .exponent + (55 - prec f) ≡ k) (most : r .exponent ≤ 2100) where
-  abbrev g : ℕ
-  g = 53 - prec f
+up : (n : ℕ) → Up (wholeRoot (size n) n) (n - wholeRoot (size n) n * wholeRoot (size n) n) (nearestRoot n)
+unfolding nearestRoot
+up n = go (wholeRoot (size n) n) (root-is n)
+  where
+    by : (w : ℕ) → IsRoot n w → (b : Bool) → (T b → n ≤ w * w + w) → (T (not b) → w * w + w < n) → Up w (n - w * w) (cond b w (suc w))
+    by w i true a c = inl (refl, omega (arith, a tt))
+    by w i false a c = inr (refl, omega (arith, c tt))
 
-  -- the digits of the result that the format has no room for
-  sums : (f : Format) → (2 + (53 - prec f) ≡ 55 - prec f) × (prec f + (55 - prec f) ≡ 55) × (prec f - 1 + (55 - prec f) ≡ 54) ×
-      (2 + (prec f - 1) + (53 - prec f) ≡ 54) × (2 + prec f + (53 - prec f) ≡ 55)
-  sums binary32 = (refl, refl, refl, refl, refl)
-  sums binary64 = (refl, refl, refl, refl, refl)
+    go : (w : ℕ) → IsRoot n w → Up w (n - w * w) (cond (leb n (w * w + w)) w (suc w))
+    go w i = by w i (leb n (w * w + w)) (leb→le n (w * w + w)) (nleb→lt n (w * w + w))
 
-  four : (p : ℕ) → 4 * 2 ^ p ≡ 2 ^ (2 + p)
-  four p = sym (pow-add 2 2 p)
+up-in : (q rest c : ℕ) → Up q rest c → (q ≤ c) × (c ≤ suc q)
+up-in q rest c (inl e) = omega (arith, e .0)
+up-in q rest c (inr e) = omega (arith, e .0)
 
-  at-least : 2 ^ 54 ≤ t * 2 ^ g
-  at-least =
-      le-trans (le-of-eq (ap (λ (x : ℕ). 2 ^ x) (sym (sums f .3)) ∙ pow-add 2 (2 + (prec f - 1)) g))
-      (mul-le-mul-right (2 ^ g) (le-trans (le-of-eq (sym (four (prec f - 1))))
-      (le-trans (mul-le-mul-left 4 full) (told-in q (radicand - q * q) t u .0))))
+-- ---- the law
 
-  under : t * 2 ^ g < 2 ^ 55
-  under =
-      lt-of-lt-of-le (mul-lt-mul-of-pos-right (told-in q (radicand - q * q) t u .1) (pow-pos g))
-      (le-trans (mul-le-mul-right (2 ^ g) (le-trans (mul-le-mul-left 4 few) (le-of-eq (four (prec f)))))
-      (le-of-eq (sym (pow-add 2 (2 + prec f) g) ∙ ap (λ (x : ℕ). 2 ^ x) (sums f .4))))
+module _ (f : Format) (g t : ℕ) (even : t % 2 ≡ 0) (room : g / 2 + 2 ≤ ones f) where
+  abbrev m : ℕ
+  m = t % 2 ^ wide f + 2 ^ wide f
 
-  tidy : Tidy r
-  tidy = record { at-least = rw significand at-least; under = rw significand under; room = most }
+  abbrev n : ℕ
+  n = radicand (wide f) g t
 
-  abbrev field : ℕ
-  field = k + low f - 1128
+  abbrev N : ℕ
+  N = n * 2 ^ zeros f
 
-  -- what is kept of the result
-  kept : closest (t * 2 ^ g) (2 ^ (55 - prec f)) ≡ closest t 4
-  kept =
-      closest-same (t * 2 ^ g) (2 ^ (55 - prec f)) t 4 (pow-pos (55 - prec f)) (zero-lt-suc 3)
-      (mul-assoc t (2 ^ g) 4 ∙ ap (λ (x : ℕ). t * x) (mul-comm (2 ^ g) 4 ∙ four g ∙ ap (λ (x : ℕ). 2 ^ x) (sums f .0)))
+  abbrev k : ℕ
+  k = g / 2
 
-  rounds-to : round f false (r .significand * 2 ^ r .exponent) (2 ^ 1128) ≡ units f false (closest t 4) field
-  rounds-to =
-      let sum : r .exponent + low f + (55 - prec f) ≡ 1128 + field = omega arith in
-      rounds f false (r .significand) (r .exponent) 1128 field (55 - prec f) sum
-      (lt-of-lt-of-le (tidy .under) (pow-mono (le-of-eq (sym (sums f .1))))) (inr (le-trans (pow-mono (le-of-eq (sums f .2))) (tidy .at-least)))
-      ∙ ap (λ (x : ℕ). units f false (closest x (2 ^ (55 - prec f))) field) significand
-      ∙ ap (λ (x : ℕ). units f false x field) kept
+  abbrev q : ℕ
+  q = wholeRoot (size N) N
 
-  -- the same radicand, in units of the format's smallest value
-  in-units : n .significand * 2 ^ n .exponent * (2 ^ low f * 2 ^ low f) ≡ radicand * (2 ^ field * 2 ^ field) * 2 ^ 1128
-  in-units =
-      let a = n .significand * 2 ^ n .exponent in
-      let L = 2 ^ low f in
-      let S = 2 ^ 1128 in
-      let split : 2 ^ k * L ≡ 2 ^ field * S = sym (pow-add 2 k (low f)) ∙ ap (λ (x : ℕ). 2 ^ x) (back (k + low f) room) ∙ pow-add 2 field 1128 in
-      cancel (a * (L * L)) (radicand * (2 ^ field * 2 ^ field) * S) (pow-pos 1128)
-      (mul-right-comm a (L * L) S ∙ ap (λ (x : ℕ). x * (L * L)) scale ∙ mul-assoc radicand (2 ^ k * 2 ^ k) (L * L)
-      ∙ ap (λ (x : ℕ). radicand * x) (mul-mul-mul-comm (2 ^ k) (2 ^ k) L L ∙ ap (λ (x : ℕ). x * x) split
-      ∙ mul-mul-mul-comm (2 ^ field) S (2 ^ field) S)
-      ∙ sym (mul-assoc radicand (2 ^ field * 2 ^ field) (S * S)) ∙ sym (mul-assoc (radicand * (2 ^ field * 2 ^ field)) S S))
+  abbrev r : ℕ
+  r = nearestRoot N
+
+  -- nothing is cut off
+  exact : n * 2 ^ (1 - g % 2) ≡ m
+  exact = go f (parity g)
     where
-      back : (a : ℕ) → 1128 ≤ a → a ≡ a - 1128 + 1128
-      back a h = omega arith
+      go : (f : Format) → (g % 2 ≡ 0) ⊎ (g % 2 ≡ 1) → radicand (wide f) g t * 2 ^ (1 - g % 2) ≡ t % 2 ^ wide f + 2 ^ wide f
+      go binary32 (inl e) = rw e (omega arith)
+      go binary32 (inr e) = rw e (omega arith)
+      go binary64 (inl e) = rw e (omega arith)
+      go binary64 (inr e) = rw e (omega arith)
 
-  pub rooted : Rooted f n r
-  rooted =
-      record {
-        tidy = tidy;
-        is = λ x v.
-            rounds-to
-            ∙ sym (root-of f x (n .significand * 2 ^ n .exponent) (2 ^ 1128) (radicand * (2 ^ field * 2 ^ field))
-            (mul-pos some (pow-pos (n .exponent))) (pow-pos 1128) v in-units
-            ∙ root-at f radicand field q i full few (closest t 4) (rounded q (radicand - q * q) t u));
-      }
+  bounds : (hid f * hid f ≤ N) × (N < 2 ^ prec f * 2 ^ prec f)
+  bounds = go f
+    where
+      go : (f : Format) → (hid f * hid f ≤ radicand (wide f) g t * 2 ^ zeros f) × (radicand (wide f) g t * 2 ^ zeros f < 2 ^ prec f * 2 ^ prec f)
+      go binary32 = let b = radicand-in (2 ^ 30) g t (lit< tt) in omega (arith, b .0, b .1)
+      go binary64 = let b = radicand-in (2 ^ 52) g t (lit< tt) in omega (arith, b .0, b .1)
+
+  full : hid f ≤ q
+  full = root-ge (hid f) q N (bounds .0) (omega (arith, root-is N .below))
+
+  few : q < 2 ^ prec f
+  few = root-lt (2 ^ prec f) q N (bounds .1) (root-is N .at-least)
+
+  r-ge : hid f ≤ r
+  r-ge = le-trans full (up-in q (N - q * q) r (up N) .0)
+
+  r-le : r ≤ 2 ^ prec f
+  r-le = le-trans (up-in q (N - q * q) r (up N) .1) few
+
+  pub most : k * hid f + r ≤ ones f * hid f
+  most = go (hid f) (mul-le-mul-right (hid f) room) (le-trans r-le (le-of-eq (twice-hid f)))
+    where
+      go : (h : ℕ) → (k + 2) * h ≤ ones f * h → r ≤ h + h → k * h + r ≤ ones f * h
+      go h a b = omega (arith, a)
+
+  -- the same number, in units of the format's smallest value
+  in-units : m * 2 ^ g * (2 ^ low f * 2 ^ low f) ≡ N * (2 ^ k * 2 ^ k) * 2 ^ (low f + low f + 1 - zeros f)
+  in-units =
+      ap (λ (y : ℕ). y * 2 ^ g * (2 ^ low f * 2 ^ low f)) (sym exact)
+      ∙ ap (λ (y : ℕ). y * (2 ^ low f * 2 ^ low f)) (join n (1 - g % 2) g) ∙ square n (1 - g % 2 + g) (low f)
+      ∙ ap (λ (y : ℕ). n * 2 ^ y) (sums f)
+      ∙ sym (ap (λ (y : ℕ). y * 2 ^ (low f + low f + 1 - zeros f)) (square n (zeros f) k) ∙ join n (zeros f + (k + k)) (low f + low f + 1 - zeros f))
+    where
+      sums : (f : Format) → 1 - g % 2 + g + (low f + low f) ≡ zeros f + (g / 2 + g / 2) + (low f + low f + 1 - zeros f)
+      sums binary32 = omega arith
+      sums binary64 = omega arith
+
+  pub rooted : RootBy f g t (ofBits f (k * hid f + r))
+  rooted x v =
+      ap (ofBits f) (sym (zero-add (k * hid f + r))) ∙ packs f false r k r-le (inr r-ge) most
+      ∙ sym (root-of f x (m * 2 ^ g) (2 ^ (low f + low f + 1 - zeros f)) (N * (2 ^ k * 2 ^ k))
+      (mul-pos some (pow-pos g)) (pow-pos (low f + low f + 1 - zeros f)) v in-units
+      ∙ root-at f N k q (root-is N) full few r (up N))
+    where
+      some : 0 < m
+      some = omega (arith, pow-pos (wide f))

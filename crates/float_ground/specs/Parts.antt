@@ -1,6 +1,5 @@
 -- What it is for a float to be taken apart (docs/RULES.md, "The float ground"). Definitions only.
 use mathlib.Core.Path.{_≡_}
-use mathlib.Core.Logic.{_⊎_}
 use mathlib.Core.Bool.{Bool, false, not, cond}
 use Prim.Native.Nat.{ℕ, _+_, _-_, _*_, _%_, _^_, _≤_, _<_}
 use lib.Dec.{T}
@@ -61,16 +60,6 @@ pub record Packed (f : Format) (n : Parts) (r : ℕ) : Type 0 where
   pub most : r ≤ ones f * hid f
   pub is : (s : Bool) → ofBits f (cond s (top f) 0 + r) ≡ round f s (n .significand * 2 ^ n .exponent) (2 ^ 1128)
 
--- r is q followed by two digits that tell on which side of q and a half the root of q * q + rest lies
-abbrev pub Told : ℕ → ℕ → ℕ → Type 0
-Told q rest r = ((r ≡ 4 * q + 1) × (rest ≤ q)) ⊎ ((r ≡ 4 * q + 3) × (q < rest))
-
--- r, rounded to the format f, is the root of the positive number that n stands for
-pub record Rooted (f : Format) (n r : Parts) : Type 0 where
-  pub tidy : Tidy r
-  pub is : (x : Float) → HasValue x false (n .significand * 2 ^ n .exponent) (2 ^ 1128) →
-      round f false (r .significand * 2 ^ r .exponent) (2 ^ 1128) ≡ rootOf f x
-
 -- ---- a pattern, and what it is read as
 
 -- no NaN's pattern, and not too long
@@ -82,25 +71,29 @@ abbrev pub floatOf : Format → Pattern → Float
 floatOf f Nothing = nan
 floatOf f (Bits b) = ofBits f b
 
--- a number is in normal form; for a root, one of the format f
+-- a number is in normal form
 abbrev pub TidyApart : Apart → Type 0
 TidyApart Nan = Unit {0}
 TidyApart (Infinite s) = Unit {0}
 TidyApart (Zero s) = Unit {0}
 TidyApart (Number n) = Tidy n
 
-abbrev pub StandsApart : Format → Apart → Type 0
-StandsApart f Nan = Unit {0}
-StandsApart f (Infinite s) = Unit {0}
-StandsApart f (Zero s) = Unit {0}
-StandsApart f (Number n) = Stands f n
-
 -- p is the pattern of what was taken apart, rounded to the format f
 pub record RoundedTo (f : Format) (a : Apart) (p : Pattern) : Type 0 where
   pub plain : Plain f p
   pub is : (g : Format) (x : Float) → TakenApart g x a → floatOf f p ≡ roundTo f x
 
--- p is the pattern of its root
-pub record RootTo (f : Format) (a : Apart) (p : Pattern) : Type 0 where
-  pub plain : Plain f p
-  pub is : (x : Float) → TakenApart f x a → floatOf f p ≡ rootOf f x
+-- ---- roots
+
+-- where the leading digit of the number stands whose root is taken, and how many zeros go behind it
+abbrev pub wide : Format → ℕ
+wide binary32 = 31
+wide binary64 = 53
+
+abbrev pub zeros : Format → ℕ
+zeros binary32 = 16
+zeros binary64 = 52
+
+-- r is the root of m * 2 ^ g / 2 ^ (2 low + 1 - zeros), where m has a leading 1 at 2 ^ wide and below it the digits of t
+abbrev pub RootBy : Format → ℕ → ℕ → Float → Type 0
+RootBy f g t r = (x : Float) → HasValue x false ((t % 2 ^ wide f + 2 ^ wide f) * 2 ^ g) (2 ^ (low f + low f + 1 - zeros f)) → r ≡ rootOf f x

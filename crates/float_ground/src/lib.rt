@@ -11,7 +11,6 @@ pub mod narrowing;
 mod pack;
 mod parts;
 mod root;
-mod whole;
 
 pub use narrowing::Narrowed;
 pub use narrowing::narrow;
@@ -53,7 +52,16 @@ pub fn sqrt_f32(x: f32) -> f32
     ensures equal { λ r. ⌜ r ≡ rootOf binary32 x ⌝ }
     ensures nearest { λ r. ⌜ Root binary32 x r ⌝ }
 {
-    pack::float32(root::root_to(Width::W32, parts::take_apart32(x)))
+    if (f32::from_bits(0x80_0000) <= x) & (x < f32::from_bits(0x7f80_0000)) {
+        return root::normal32(f32::to_bits(x));
+    }
+    if (0.0 < x) & (x < f32::from_bits(0x80_0000)) {
+        return root::subnormal32(f32::to_bits(x));
+    }
+    if x < 0.0 {
+        return 0.0 / 0.0;
+    }
+    x // a zero, the infinity or a NaN: its own root
 }
 
 // x's square root, rounded once, as `sqrt_f32` has it.
@@ -61,5 +69,14 @@ pub fn sqrt_f64(x: f64) -> f64
     ensures equal { λ r. ⌜ r ≡ rootOf binary64 x ⌝ }
     ensures nearest { λ r. ⌜ Root binary64 x r ⌝ }
 {
-    pack::float64(root::root_to(Width::W64, parts::take_apart64(x)))
+    if (f64::from_bits(0x10_0000_0000_0000) <= x) & (x < f64::from_bits(0x7ff0_0000_0000_0000)) {
+        return root::normal64(f64::to_bits(x));
+    }
+    if (0.0 < x) & (x < f64::from_bits(0x10_0000_0000_0000)) {
+        return root::subnormal64(f64::to_bits(x));
+    }
+    if x < 0.0 {
+        return 0.0 / 0.0;
+    }
+    x // as in `sqrt_f32`
 }

@@ -1,85 +1,57 @@
-// The square root of a number in normal form, with as many digits as rounding it takes.
+// The square root of a number above zero, from its pattern.
 ghost use mathlib.Core.Path.{_≡_};
-ghost use Prim.Native.Nat.{_+_, _*_, _^_, _≤_, _<_};
-ghost use lib.Ieee.{binary32, binary64};
-ghost use Rattle.float_ground.specs.Parts.{formatOf, Stands, StandsApart, Rooted, RootTo, Told};
-use super::pack;
-use super::pack::Pattern;
-use super::parts::Apart;
-use super::parts::Parts;
-use super::parts::Width;
-use super::whole;
+ghost use Prim.Native.Nat.{_%_, _≤_, _<_};
+ghost use lib.Ieee.{binary32, binary64, ofBits};
+ghost use Rattle.float_laws.specs.Root.{rootOf};
+ghost use Rattle.float_ground.specs.Parts.{RootBy};
 
-// A root's digits q with two more, by which it is rounded: 01 where what is left says that the root is
-// at most q and a half, else 11. A root is never exactly q and a half.
-fn told(q: u64, rest: u64) -> u64
-    requires { ⌜ q < 2 ^ 53 ⌝ }
-    ensures { λ r. ⌜ Told q rest r ⌝ }
+// The root of a number with a leading 1 and below it the digits of t: the whole number nearest to the root of its digits, put
+// behind half of g.
+fn root32(g: u32, t: u32) -> f32
+    requires { ⌜ g ≤ 379 ⌝ ∗ ⌜ t % 2 ≡ 0 ⌝ }
+    ensures { λ r. ⌜ RootBy binary32 g t r ⌝ }
 {
-    if rest <= q { 4 * q + 1 } else { 4 * q + 3 }
+    f32::from_bits((g >> 1) * 0x80_0000 + whole_roots::root24(g, t))
 }
 
-// n's root, for rounding to 24 digits: the whole root of a number of 47 or 48 digits.
-fn root24(n: Parts) -> Parts
-    requires { ⌜ Stands binary32 n ⌝ }
-    ensures { λ r. ⌜ Rooted binary32 n r ⌝ }
+// The root of the normal number that b is the pattern of.
+pub fn normal32(b: u32) -> f32
+    requires { ⌜ 0x80_0000 ≤ b ⌝ ∗ ⌜ b < 0x7f80_0000 ⌝ }
+    ensures { λ r. ⌜ r ≡ rootOf binary32 (ofBits binary32 b) ⌝ }
 {
-    let odd = n.exponent % 2;
-    let radicand = n.significand >> (8 - odd);
-    let q = whole::root_from(radicand, whole::guess_root(odd, n.significand) >> 29);
-    Parts {
-        negative: false,
-        exponent: n.exponent / 2 + 537,
-        significand: told(q, radicand - q * q) << 29,
-    }
+    root32((b >> 23) + 125, b << 8)
 }
 
-// n's root, for rounding to 53 digits: the whole root of a number of 105 or 106 digits, whose lower 52 are zeros.
-fn root53(n: Parts) -> Parts
-    requires { ⌜ Stands binary64 n ⌝ }
-    ensures { λ r. ⌜ Rooted binary64 n r ⌝ }
+// The root of the subnormal number that b is the pattern of: b's leading zeros give the shift to normal form.
+pub fn subnormal32(b: u32) -> f32
+    requires { ⌜ 0 < b ⌝ ∗ ⌜ b < 0x80_0000 ⌝ }
+    ensures { λ r. ⌜ r ≡ rootOf binary32 (ofBits binary32 b) ⌝ }
 {
-    let odd = n.exponent % 2;
-    let upper = n.significand >> (2 - odd);
-    let s = whole::root_from(upper, whole::guess_root(odd, n.significand) >> 26);
-    let w = whole::extend(s, upper - s * s);
-    Parts {
-        negative: false,
-        exponent: n.exponent / 2 + 537,
-        significand: told(w.root, w.rest),
-    }
+    let z = u32::leading_zeros(b);
+    root32(134 - z, b << z)
 }
 
-fn root_digits(w: Width, n: Parts) -> Parts
-    requires { ⌜ Stands (formatOf w) n ⌝ }
-    ensures { λ r. ⌜ Rooted (formatOf w) n r ⌝ }
+// As `root32` has it.
+fn root64(g: u64, t: u64) -> f64
+    requires { ⌜ g ≤ 3067 ⌝ ∗ ⌜ t % 2 ≡ 0 ⌝ }
+    ensures { λ r. ⌜ RootBy binary64 g t r ⌝ }
 {
-    match w {
-        Width::W32 => root24(n),
-        Width::W64 => root53(n),
-    }
+    f64::from_bits((g >> 1) * 0x10_0000_0000_0000 + whole_roots::root53(g, t))
 }
 
-// The root of what was taken apart, rounded once: a zero for a zero, of the same sign, nothing for a NaN
-// and for a number below zero, and the infinity for the infinity.
-pub fn root_to(w: Width, a: Apart) -> Pattern
-    requires { ⌜ StandsApart (formatOf w) a ⌝ }
-    ensures { λ r. ⌜ RootTo (formatOf w) a r ⌝ }
+// The root of the normal number that b is the pattern of.
+pub fn normal64(b: u64) -> f64
+    requires { ⌜ 0x10_0000_0000_0000 ≤ b ⌝ ∗ ⌜ b < 0x7ff0_0000_0000_0000 ⌝ }
+    ensures { λ r. ⌜ r ≡ rootOf binary64 (ofBits binary64 b) ⌝ }
 {
-    match a {
-        Apart::Nan => Pattern::Nothing,
-        Apart::Infinite(negative) => {
-            if negative {
-                return Pattern::Nothing;
-            }
-            pack::infinite(w, false)
-        }
-        Apart::Zero(negative) => pack::signed(w, negative, 0),
-        Apart::Number(n) => {
-            if n.negative {
-                return Pattern::Nothing;
-            }
-            pack::signed(w, false, pack::pack(w, root_digits(w, n)))
-        }
-    }
+    root64((b >> 52) + 1021, b << 1)
+}
+
+// The root of the subnormal number that b is the pattern of: b's leading zeros give the shift to normal form.
+pub fn subnormal64(b: u64) -> f64
+    requires { ⌜ 0 < b ⌝ ∗ ⌜ b < 0x10_0000_0000_0000 ⌝ }
+    ensures { λ r. ⌜ r ≡ rootOf binary64 (ofBits binary64 b) ⌝ }
+{
+    let z = (u64::leading_zeros(b) - 10) as u64;
+    root64(1023 - z, b << z)
 }

@@ -1,27 +1,58 @@
--- `float_ground::sqrt_f32` meets its contract: taken apart, its root put together; and `rootOf` has the meaning of a root. Assumes nothing.
-use borrow.Author.Needs.{needs}
-use mathlib.Core.Path.{sym, _∙_, subst}
+-- `float_ground::sqrt_f32` meets its contract: each test tells which root x's pattern goes to, or that x has none or is its own. Assumes nothing.
+use mathlib.Core.Path.{sym, subst}
 use lib.Dec.{T}
-use lib.Ieee.{binary32}
-use Rattle.float_ground.proofs.Converting.{stands-apart}
-use Rattle.float_laws.proofs.RootMeaning.{both}
+use lib.Ieee.{binary32, fits, nanBits}
+use Rattle.float_ground.proofs.RootKinds.{normal-number, subnormal-number, normal-bits, subnormal-bits, of-pattern, no-root, itself}
 use Rattle.float_ground.proofs.sqrt_f32.Statement.{statement}
 use Rattle.float_ground.proofs.sqrt_f32.Tie as tie
 
-take-apart32-requires : tie.Need-take-apart32-requires
-take-apart32-requires c κs = search needs
+held : (c : tie.Start) → T (fits binary32 (c .args .x))
+held c = subst T (sym (c .good .0 .1)) tt
 
-root-to-requires : tie.Need-root-to-requires
-root-to-requires c κs = stands-apart binary32 (c .before .args .x) (c .take-apart32 .result) (c .take-apart32 .ensures)
+float-from-bits-if1 : tie.Need-float-from-bits-if1
+unfolding nanBits
+float-from-bits-if1 c = tt
 
-float32-requires : tie.Need-float32-requires
-float32-requires c κs = search needs
+float-from-bits-if1-2 : tie.Need-float-from-bits-if1-2
+unfolding nanBits
+float-from-bits-if1-2 c = tt
+
+float-to-bits-normal32 : tie.Need-float-to-bits-normal32
+float-to-bits-normal32 c = normal-number binary32 (c .before .args .x) (c .if1 .taken)
+
+normal32-requires : tie.Need-normal32-requires
+normal32-requires c κs = normal-bits binary32 (c .before .args .x) (held (c .before)) (c .if1 .taken)
 
 returns : tie.Need-returns
-returns c =
-    let a = c .before .before in
-    both binary32 (a .before .args .x) (c .float32 .result) (subst T (sym (a .before .good .0 .1)) tt)
-    (c .float32 .ensures ∙ c .before .root-to .ensures .is (a .before .args .x) (a .take-apart32 .ensures))
+returns c = of-pattern binary32 (c .before .before .args .x) (c .normal32 .result) (held (c .before .before)) (c .normal32 .ensures)
+
+float-from-bits-if2 : tie.Need-float-from-bits-if2
+unfolding nanBits
+float-from-bits-if2 c = tt
+
+float-to-bits-subnormal32 : tie.Need-float-to-bits-subnormal32
+float-to-bits-subnormal32 c = subnormal-number binary32 (c .before .before .args .x) (c .if2 .taken)
+
+subnormal32-requires : tie.Need-subnormal32-requires
+subnormal32-requires c κs = subnormal-bits binary32 (c .before .before .args .x) (held (c .before .before)) (c .if2 .taken)
+
+returns-2 : tie.Need-returns-2
+returns-2 c =
+    let a = c .before .before .before in
+    of-pattern binary32 (a .args .x) (c .subnormal32 .result) (held a) (c .subnormal32 .ensures)
+
+returns-3 : tie.Need-returns-3
+returns-3 c =
+    let a = c .before .before .before in
+    no-root binary32 (a .args .x) (held a) (c .if3 .taken)
+
+returns-4 : tie.Need-returns-4
+returns-4 c =
+    let a = c .before .before .before in
+    itself binary32 (a .args .x) (held a) (c .before .before .if1 .left) (c .before .if2 .left) (c .if3 .left)
 
 pub sqrt-f32-spec : {M : Type 1} → statement M
-sqrt-f32-spec = tie.close (tie.spec take-apart32-requires root-to-requires float32-requires returns)
+sqrt-f32-spec =
+    tie.close
+    (tie.spec float-from-bits-if1 float-from-bits-if1-2 float-to-bits-normal32 normal32-requires returns float-from-bits-if2
+    float-to-bits-subnormal32 subnormal32-requires returns-2 returns-3 returns-4)

@@ -1,0 +1,5 @@
+pub mod Each
+pub mod Heron
+pub mod Keys
+pub mod Only
+pub mod Radicand
