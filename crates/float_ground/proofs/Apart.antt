@@ -17,43 +17,45 @@ use Rattle.float_ground.specs.Parts.{Normal, Stands, Is}
 use Rattle.float_laws.proofs.Patterns.{plain-bits, twice-hid}
 use Rattle.float_laws.proofs.Values.{same-value}
 
--- ---- m's leading zeros give the shift z that brings its leading digit to 2 ^ 54
+-- ---- of w places, z is m's leading zeros but d: the shift that brings its leading digit to 2 ^ p, and none of its digits is lost
 
-pub record Shift (m z : ℕ) : Type 0 where
-  pub most : z ≤ 54
-  pub at-least : 2 ^ 54 ≤ m * 2 ^ z
-  pub under : m * 2 ^ z < 2 ^ 55
-  pub clear : (p : ℕ) → p ≤ 53 → m < 2 ^ p → m * 2 ^ z % 2 ^ (55 - p) ≡ 0
+pub record Shift (w d p m z : ℕ) : Type 0 where
+  pub some : d < leadingZeros w m
+  pub few : leadingZeros w m < w
+  pub at-least : 2 ^ p ≤ m * 2 ^ z
+  pub under : m * 2 ^ z < 2 ^ suc p
+  pub clear : (q : ℕ) → q ≤ p → m < 2 ^ q → m * 2 ^ z % 2 ^ (suc p - q) ≡ 0
 
-pub pow-lt-back : (i p : ℕ) → 2 ^ i < 2 ^ p → i < p
+pow-lt-back : (i p : ℕ) → 2 ^ i < 2 ^ p → i < p
 pow-lt-back i p h = lt-of-not-le (λ (g : p ≤ i). lt-irrefl (2 ^ i) (lt-of-lt-of-le h (pow-mono g)))
 
 -- the digits below 2 ^ k of a number shifted by at least k
-pub tail : (m z k : ℕ) → k ≤ z → m * 2 ^ z % 2 ^ k ≡ 0
+tail : (m z k : ℕ) → k ≤ z → m * 2 ^ z % 2 ^ k ≡ 0
 tail m z k h =
     let split : 2 ^ (z - k) * 2 ^ k ≡ 2 ^ z = sym (pow-add 2 (z - k) k) ∙ ap (λ (y : ℕ). 2 ^ y) (sub-add-cancel h) in
     ap (λ (y : ℕ). m * y % 2 ^ k) (sym split) ∙ ap (λ (y : ℕ). y % 2 ^ k) (sym (mul-assoc m (2 ^ (z - k)) (2 ^ k)))
     ∙ mul-mod-left (m * 2 ^ (z - k)) (2 ^ k)
 
-pub shift : (m : ℕ) → 0 < m → m < 2 ^ 53 → (9 ≤ leadingZeros 64 m) × Shift m (leadingZeros 64 m - 9)
-shift m M h = go (leadingZeros 64 m) (leading-top 64 m M (lt-of-lt-of-le h (lit≤ tt)))
+pub shift : (w d p m z : ℕ) → suc (p + d) ≡ w → 0 < m → m < 2 ^ p → z ≡ leadingZeros w m - d → Shift w d p m z
+shift w d p m z W M h Z =
+    let wider : p ≤ w = omega arith in
+    go (leadingZeros w m) refl (leading-top w m M (lt-of-lt-of-le h (pow-mono wider)))
   where
-    go : (l : ℕ) → (t : ℕ) × (l + suc t ≡ 64) × (2 ^ t ≤ m) × (m < 2 ^ suc t) → (9 ≤ l) × Shift m (l - 9)
-    go l r =
+    go : (l : ℕ) → leadingZeros w m ≡ l → (t : ℕ) × (l + suc t ≡ w) × (2 ^ t ≤ m) × (m < 2 ^ suc t) → Shift w d p m z
+    go l e r =
         let t = r .0 in
-        let few : t < 53 = pow-lt-back t 53 (lt-of-le-of-lt (r .2) h) in
-        let sum : t + (l - 9) ≡ 54 = omega (arith, r .1) in
-        let more : suc t + (l - 9) ≡ 55 = omega arith in (
-          omega (arith, r .1),
-          record {
-            most = omega arith;
-            at-least = le-trans (le-of-eq (ap (λ (y : ℕ). 2 ^ y) (sym sum) ∙ pow-add 2 t (l - 9))) (mul-le-mul-right (2 ^ (l - 9)) (r .2));
-            under = subst (λ (y : ℕ). m * 2 ^ (l - 9) < 2 ^ y) more (shl-lt (suc t) (l - 9) (r .3));
-            clear = λ p P g.
-                let below : t < p = pow-lt-back t p (lt-of-le-of-lt (r .2) g) in
-                tail m (l - 9) (55 - p) (omega (arith, r .1));
-          },
-        )
+        let low-enough : t < p = pow-lt-back t p (lt-of-le-of-lt (r .2) h) in
+        let sum : t + z ≡ p = omega (arith, r .1, e, Z) in
+        let next : suc t + z ≡ suc p = omega arith in
+        record {
+          some = omega (arith, r .1, e);
+          few = omega (arith, r .1, e);
+          at-least = le-trans (le-of-eq (ap (λ (y : ℕ). 2 ^ y) (sym sum) ∙ pow-add 2 t z)) (mul-le-mul-right (2 ^ z) (r .2));
+          under = subst (λ (y : ℕ). m * 2 ^ z < 2 ^ y) next (shl-lt (suc t) z (r .3));
+          clear = λ q Q g.
+              let below : t < q = pow-lt-back t q (lt-of-le-of-lt (r .2) g) in
+              tail m z (suc p - q) (omega (arith, sum));
+        }
 
 -- ---- what the fields stand for
 

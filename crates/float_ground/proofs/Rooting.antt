@@ -8,8 +8,8 @@ use native.Mathlib.Nat.{le-trans, le-of-eq, zero-add, mul-assoc, mul-pos, mul-le
 use native.Mathlib.Omega.{arith}
 use lib.Dec.{T, leb, leb→le, nleb→lt, lit<}
 use lib.Pow.{pow-add, pow-pos}
-use lib.Ieee.{Format, binary32, binary64, prec, low, hid, ones, size, units, ofBits}
-use Rattle.float_laws.specs.Root.{wholeRoot, rootOf}
+use lib.Ieee.{Format, binary32, binary64, prec, low, hid, ones, size, ofBits}
+use Rattle.float_laws.specs.Root.{wholeRoot}
 use Rattle.float_laws.proofs.Patterns.{packs, twice-hid}
 use Rattle.float_laws.proofs.Rounding.{parity}
 use Rattle.float_laws.proofs.RootFunction.{IsRoot, Up, root-is, root-at, root-of}

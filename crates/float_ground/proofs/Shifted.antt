@@ -1,20 +1,18 @@
 -- A number brought to the form in which its root is taken, over the format: its leading digit at 2 ^ wide. Assumes nothing.
-use mathlib.Core.Path.{_≡_, refl, sym, ap, _∙_}
+use mathlib.Core.Path.{_≡_, sym, ap, _∙_}
 use mathlib.Core.Bool.{false}
-use Prim.Native.Nat.{ℕ, suc, _+_, _-_, _*_, _/_, _%_, _^_, _≤_, _<_}
-use native.Mathlib.Nat.{le-trans, le-of-eq, lt-of-lt-of-le, lt-of-le-of-lt, mul-assoc, mul-le-mul-right, add-mod-left, mod-eq-of-lt}
-use native.Mathlib.Nat.{div-eq-of-lt, pow-succ'}
+use Prim.Native.Nat.{ℕ, _+_, _-_, _*_, _/_, _%_, _^_, _≤_, _<_}
+use native.Mathlib.Nat.{le-of-eq, mul-assoc, add-mod-left, mod-eq-of-lt, div-eq-of-lt}
 use native.Mathlib.Omega.{arith}
 use lib.Dec.{leb}
 use lib.Arith.{lt→nleb}
-use lib.Pow.{pow-add, pow-pos, pow-mono, shl-lt}
-use lib.Count.{leadingZeros, leading-top}
+use lib.Pow.{pow-add, pow-pos}
 use lib.Ieee.{Float, Format, binary32, binary64, low, hid, ones, top, ofBits}
 use lib.Ieee.Bits.{is-false}
 use lib.Ieee.Exact.{HasValue}
 use Rattle.float_laws.proofs.Values.{same-value}
 use Rattle.float_ground.specs.Parts.{wide, zeros}
-use Rattle.float_ground.proofs.Apart.{pow-lt-back, tail, fields-high, fields-low}
+use Rattle.float_ground.proofs.Apart.{fields-high, fields-low}
 
 -- a number whose leading digit stands at p
 pub leading : (v p : ℕ) → p ≤ v → v < p + p → v % p + p ≡ v
@@ -75,34 +73,3 @@ subnormal-value f b hi =
     below : (f : Format) → b < hid f → b < ones f * hid f
     below binary32 h = omega arith
     below binary64 h = omega arith
-
--- ---- of w places, z is b's leading zeros but d: the shift that brings b's leading digit to 2 ^ p
-
-pub record Shifts (w d p b z : ℕ) : Type 0 where
-  pub some : d < leadingZeros w b
-  pub few : leadingZeros w b < w
-  pub at-least : 2 ^ p ≤ b * 2 ^ z
-  pub under : b * 2 ^ z < 2 ^ p + 2 ^ p
-  pub even : b * 2 ^ z % 2 ≡ 0
-
-pub shifts : (w d p b z : ℕ) → suc (p + d) ≡ w → 0 < b → b < 2 ^ p → z ≡ leadingZeros w b - d → Shifts w d p b z
-shifts w d p b z W B h Z =
-    let wider : p ≤ w = omega arith in
-    go (leadingZeros w b) refl (leading-top w b B (lt-of-lt-of-le h (pow-mono wider)))
-  where
-    double : (x : ℕ) → 2 * x ≡ x + x
-    double x = omega arith
-
-    go : (l : ℕ) → leadingZeros w b ≡ l → (t : ℕ) × (l + suc t ≡ w) × (2 ^ t ≤ b) × (b < 2 ^ suc t) → Shifts w d p b z
-    go l e r =
-        let t = r .0 in
-        let few : t < p = pow-lt-back t p (lt-of-le-of-lt (r .2) h) in
-        let sum : t + z ≡ p = omega (arith, r .1, e, Z) in
-        let next : suc t + z ≡ suc p = omega arith in
-        record {
-          some = omega (arith, r .1, e);
-          few = omega (arith, r .1, e);
-          at-least = le-trans (le-of-eq (ap (λ (y : ℕ). 2 ^ y) (sym sum) ∙ pow-add 2 t z)) (mul-le-mul-right (2 ^ z) (r .2));
-          under = lt-of-lt-of-le (shl-lt (suc t) z (r .3)) (le-of-eq (ap (λ (y : ℕ). 2 ^ y) next ∙ pow-succ' 2 p ∙ double (2 ^ p)));
-          even = tail b z 1 (omega (arith, few, sum));
-        }

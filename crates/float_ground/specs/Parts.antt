@@ -1,4 +1,5 @@
--- What it is for a float to be taken apart (docs/RULES.md, "The float ground"). Definitions only.
+-- What it is for a float to be taken apart and put together, and to be the root of a number by its digits (docs/RULES.md, "The float
+-- ground"). Definitions only.
 use mathlib.Core.Path.{_≡_}
 use mathlib.Core.Bool.{Bool, false, not, cond}
 use Prim.Native.Nat.{ℕ, _+_, _-_, _*_, _%_, _^_, _≤_, _<_}
@@ -94,6 +95,6 @@ abbrev pub zeros : Format → ℕ
 zeros binary32 = 16
 zeros binary64 = 52
 
--- r is the root of m * 2 ^ g / 2 ^ (2 low + 1 - zeros), where m has a leading 1 at 2 ^ wide and below it the digits of t
+-- r is the root in the format f of m * 2 ^ g / 2 ^ (2 low + 1 - zeros), where m has a leading 1 at 2 ^ wide and below it the digits of t
 abbrev pub RootBy : Format → ℕ → ℕ → Float → Type 0
 RootBy f g t r = (x : Float) → HasValue x false ((t % 2 ^ wide f + 2 ^ wide f) * 2 ^ g) (2 ^ (low f + low f + 1 - zeros f)) → r ≡ rootOf f x

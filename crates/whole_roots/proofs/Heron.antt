@@ -1,4 +1,4 @@
--- The steps from the table's entry to the nearest whole number, on natural numbers. Assumes nothing.
+-- The steps from the table's entry to a number near the root, on natural numbers. Assumes nothing.
 use mathlib.Core.Path.{_≡_, sym, ap, _∙_, subst}
 use mathlib.Core.Logic.{_⊎_, inl, inr}
 use Prim.Native.Nat.{ℕ, suc, _+_, _-_, _*_, _/_, _%_, _^_, _≤_, _<_}
@@ -6,12 +6,12 @@ use native.Mathlib.Nat.{le-of-lt, le-of-suc-le-suc, lt-of-not-le, mul-le-mul-lef
 use native.Mathlib.Omega.{arith}
 use mathlib.Core.Bool.{Bool, true, false, not}
 use lib.Dec.{T, leb, leb→le, nleb→lt}
-use Rattle.whole_roots.specs.Table.{Entry, Nearest}
+use Rattle.whole_roots.specs.Table.{Entry}
 use Rattle.whole_roots.proofs.Only.{root-ge, root-lt}
 
 -- ---- squares and order
 
-split : (y z : ℕ) → (y ≤ z) ⊎ (z ≤ y)
+pub split : (y z : ℕ) → (y ≤ z) ⊎ (z ≤ y)
 split y z = go (leb y z) (leb→le y z) (nleb→lt y z)
   where
     go : (b : Bool) → (T b → y ≤ z) → (T (not b) → z < y) → (y ≤ z) ⊎ (z ≤ y)
@@ -120,66 +120,6 @@ module _ (t d e : ℕ) (some : 0 < d + e) where
       go : (b : ℕ) → b ≤ t → t - b + b ≡ t
       go b h = omega arith
 
--- ---- the last step: r is what was found, p its last digits, v what is then left, moved up
-
-module _ (n r p v : ℕ) (is : n + p * p ≡ r * r + v) where
-  pub goes-up : p * p + r < v → v ≤ p * p + 3 * r + 2 → Nearest n (r + 1)
-  goes-up h most = (omega (arith, is), omega (arith, is))
-
-  pub stays : v ≤ p * p + r → p * p < v + r → Nearest n r
-  stays h least = (omega (arith, is), omega (arith, is))
-
--- ---- to 24 digits: p is rest * 2 ^ 8 by 2 s + 11, u what is then left by 2 s
-
-module _ (s rest : ℕ) (lo : 32768 ≤ s) (few : rest < 20 * s + 1792) where
-  abbrev p24 : ℕ
-  p24 = rest * 256 / (s + s + 11)
-
-  abbrev u24 : ℕ
-  u24 = rest * 256 - p24 * (s + s)
-
-  some24 : 0 < s + s + 11
-  some24 = omega arith
-
-  p-le24 : p24 * (s + s + 11) ≤ rest * 256
-  p-le24 = by-le (rest * 256) (s + s) 11 some24
-
-  p-gt24 : rest * 256 < p24 * (s + s + 11) + (s + s + 11)
-  p-gt24 = by-gt (rest * 256) (s + s) 11 some24
-
-  pub part-le24 : p24 * (s + s) ≤ rest * 256
-  part-le24 = part-le (rest * 256) (s + s) 11 some24
-
-  u-is24 : u24 + p24 * (s + s) ≡ rest * 256
-  u-is24 = left-is (rest * 256) (s + s) 11 some24
-
-  pub p-most24 : p24 ≤ 2816
-  p-most24 = le-of-suc-le-suc (lt-of-not-le (λ (g : 2817 ≤ p24). no p24 g p-le24))
-    where
-      no : (p : ℕ) → 2817 ≤ p → p * (s + s + 11) ≤ rest * 256 → ⊥
-      no p g h = omega (arith, mul-le-mul-right (s + s + 11) g, h, few, lo)
-
-  pub p-square24 : p24 * p24 ≤ 2816 * p24
-  p-square24 = mul-le-mul-right p24 p-most24
-
-  pub u-lt24 : u24 < s + s + 11 + 11 * p24
-  u-lt24 = omega (arith, u-is24, p-gt24)
-
-  u-ge24 : 11 * p24 ≤ u24
-  u-ge24 = omega (arith, u-is24, p-le24)
-
-  sum24 : (s * s + rest) * 65536 + p24 * p24 ≡ (s * 256 + p24) * (s * 256 + p24) + u24 * 256
-  sum24 = go p24 u24 u-is24
-    where
-      go : (p u : ℕ) → u + p * (s + s) ≡ rest * 256 → (s * s + rest) * 65536 + p * p ≡ (s * 256 + p) * (s * 256 + p) + u * 256
-      go p u e = omega (arith, e)
-
-  pub up24 : p24 * p24 + (s * 256 + p24) < u24 * 256 → Nearest ((s * s + rest) * 65536) (s * 256 + p24 + 1)
-  up24 h = goes-up ((s * s + rest) * 65536) (s * 256 + p24) p24 (u24 * 256) sum24 h (omega (arith, u-lt24, p-most24, lo))
-
-  pub stays24 : u24 * 256 ≤ p24 * p24 + (s * 256 + p24) → Nearest ((s * s + rest) * 65536) (s * 256 + p24)
-  stays24 h = stays ((s * s + rest) * 65536) (s * 256 + p24) p24 (u24 * 256) sum24 h (omega (arith, u-ge24, p-square24, lo))
-
 -- ---- the step to 27 digits: l1 the next eleven digits, l0 the last eleven
 
 module _ (s rest l1 l0 q : ℕ) (lo : 32768 ≤ s) (few : rest < 20 * s + 1792) (l1-lt : l1 < 2048) (l0-lt : l0 < 2048)
@@ -198,62 +138,3 @@ module _ (s rest l1 l0 q : ℕ) (lo : 32768 ≤ s) (few : rest < 20 * s + 1792) 
 
   pub under27 : (s * s + rest) * 4194304 + (l1 * 2048 + l0) < (s * 2048 + q) * (s * 2048 + q) + 4 * (s * 2048 + q)
   under27 = omega (arith, q-gt, twice q 11262, lo, l0-lt)
-
--- ---- to 53 digits: p is rest * 2 ^ 26 by 2 s + 2, u what is then left by 2 s
-
-module _ (s rest : ℕ) (lo : 67108864 ≤ s) (few : rest < 4 * s) where
-  abbrev p53 : ℕ
-  p53 = rest * 67108864 / (s + s + 2)
-
-  abbrev u53 : ℕ
-  u53 = rest * 67108864 - p53 * (s + s)
-
-  some53 : 0 < s + s + 2
-  some53 = omega arith
-
-  p-le53 : p53 * (s + s + 2) ≤ rest * 67108864
-  p-le53 = by-le (rest * 67108864) (s + s) 2 some53
-
-  p-gt53 : rest * 67108864 < p53 * (s + s + 2) + (s + s + 2)
-  p-gt53 = by-gt (rest * 67108864) (s + s) 2 some53
-
-  pub part-le53 : p53 * (s + s) ≤ rest * 67108864
-  part-le53 = part-le (rest * 67108864) (s + s) 2 some53
-
-  u-is53 : u53 + p53 * (s + s) ≡ rest * 67108864
-  u-is53 = left-is (rest * 67108864) (s + s) 2 some53
-
-  pub p-most53 : p53 ≤ 134217727
-  p-most53 = le-of-suc-le-suc (lt-of-not-le (λ (g : 134217728 ≤ p53). no p53 g p-le53))
-    where
-      no : (p : ℕ) → 134217728 ≤ p → p * (s + s + 2) ≤ rest * 67108864 → ⊥
-      no p g h = omega (arith, mul-le-mul-right (s + s + 2) g, h, few, lo)
-
-  pub p-square53 : p53 * p53 ≤ 134217727 * p53
-  p-square53 = mul-le-mul-right p53 p-most53
-
-  pub u-lt53 : u53 < s + s + 2 + 2 * p53
-  u-lt53 = omega (arith, u-is53, p-gt53)
-
-  u-ge53 : 2 * p53 ≤ u53
-  u-ge53 = omega (arith, u-is53, p-le53)
-
-  -- where p is small by itself, else by the squares
-  enough : (p : ℕ) → (p ≤ 25165824) ⊎ (25165824 ≤ p) → 134217728 * p + 67108864 ≤ p * p + 67108864 * s + 3 * p
-  enough p (inl l) = omega (arith, lo)
-  enough p (inr l) = omega (arith, lo, twice p 67108864)
-
-  sum53 : (s * s + rest) * 4503599627370496 + p53 * p53 ≡ (s * 67108864 + p53) * (s * 67108864 + p53) + u53 * 67108864
-  sum53 = go p53 u53 u-is53
-    where
-      go : (p u : ℕ) → u + p * (s + s) ≡ rest * 67108864 → (s * s + rest) * 4503599627370496 + p * p ≡ (s * 67108864 + p) * (s * 67108864 + p) + u * 67108864
-      go p u e = omega (arith, e)
-
-  pub up53 : p53 * p53 + (s * 67108864 + p53) < u53 * 67108864 → Nearest ((s * s + rest) * 4503599627370496) (s * 67108864 + p53 + 1)
-  up53 h =
-      goes-up ((s * s + rest) * 4503599627370496) (s * 67108864 + p53) p53 (u53 * 67108864) sum53 h
-      (omega (arith, u-lt53, enough p53 (split p53 25165824)))
-
-  pub stays53 : u53 * 67108864 ≤ p53 * p53 + (s * 67108864 + p53) → Nearest ((s * s + rest) * 4503599627370496) (s * 67108864 + p53)
-  stays53 h =
-      stays ((s * s + rest) * 4503599627370496) (s * 67108864 + p53) p53 (u53 * 67108864) sum53 h (omega (arith, u-ge53, p-square53, lo))

@@ -1,5 +1,4 @@
--- How many digits the number has whose root is taken: one or two more than 2 ^ p, where its leading digit stands at 2 ^ (p + 1).
--- Assumes nothing.
+-- Bounds of the number whose root is taken: its leading digit stands at 2 p, or at p where it is halved. Assumes nothing.
 use mathlib.Core.Path.{_≡_}
 use mathlib.Core.Logic.{_⊎_, inl, inr}
 use Prim.Native.Nat.{ℕ, _+_, _-_, _*_, _/_, _%_, _^_, _≤_, _<_}

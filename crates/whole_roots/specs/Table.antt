@@ -20,8 +20,7 @@ hasEntry k = leb 256 k && ltb k 1024
 abbrev pub entryOf : ℕ → ℕ
 entryOf k = cond (hasEntry k) (wholeRoot (size (k * 65536)) (k * 65536)) 0
 
--- of a word that holds four entries, that at place i: the first is 4096 more than the upper 12 digits, and five digits for each place
--- say how far it lies above the first
+-- of a word that holds four entries, that at place i: 4096, the upper 12 digits and the five digits of its place, added up
 abbrev pub lane : ℕ → ℕ → ℕ
 lane w i = 4096 + w / 2 ^ 20 + w / 2 ^ (5 * i) % 32
 
@@ -34,7 +33,7 @@ abbrev pub NoneOf : ℕ → ℕ → ℕ → Type 0
 NoneOf k zero j = Unit {0}
 NoneOf k (suc n) j = NoneOf k n j × (j ≡ k + n → ⊥)
 
--- what is stored for j: 0 where j is none of the 192 numbers from 64 on, else the entries for 4 j to 4 j + 3
+-- what is stored for j: 0 only where j is none of the 192 numbers from 64 on, and else the entries for 4 j to 4 j + 3
 abbrev pub Word : ℕ → ℕ → Type 0
 Word j zero = NoneOf 64 192 j
 Word j (suc w) = Packs j (suc w)

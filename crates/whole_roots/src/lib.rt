@@ -47,16 +47,16 @@ pub fn read_alike() -> u32
     768
 }
 
-// The root of n * 2^16 to the nearest whole number, 24 digits: n has a leading 1 at 2^31 and below it the digits of t, and is
-// halved where g is even.
+// The root of n * 2^16 to the nearest whole number, from 2^23 to 2^24: n has a leading 1 at 2^31 and below it the digits of t,
+// and is halved where g is even.
 pub fn root24(g: u32, t: u32) -> u32
     ensures { λ r. ⌜ r ≡ nearestRoot (radicand 31 g t * 2 ^ 16) ⌝ }
 {
     steps::nearest24((t % 0x8000_0000 + 0x8000_0000) >> (1 - g % 2))
 }
 
-// The root of n * 2^52 to the nearest whole number, 53 digits: n has a leading 1 at 2^53 and below it the digits of t, and is
-// halved where g is even.
+// The root of n * 2^52 to the nearest whole number, from 2^52 to 2^53: n has a leading 1 at 2^53 and below it the digits of t,
+// and is halved where g is even.
 pub fn root53(g: u64, t: u64) -> u64
     ensures { λ r. ⌜ r ≡ nearestRoot (radicand 53 g t * 2 ^ 52) ⌝ }
 {

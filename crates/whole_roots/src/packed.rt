@@ -1,11 +1,10 @@
 // The same table in packed words, read by a `match`: the compiler keeps that as constant data, where it would write an array
 // onto the stack at every call.
-ghost use mathlib.Core.Path.{_≡_};
-ghost use Prim.Native.Nat.{_+_, _*_, _/_, _%_, _^_, _≤_, _<_};
+ghost use Prim.Native.Nat.{_≤_, _<_};
 ghost use Rattle.whole_roots.specs.Table.{Entry, Word};
 
 // The entries for 4 j to 4 j + 3: the first, less 4096, in the upper 12 digits, and how far each of the four lies above it,
-// in five digits each, from the lowest on. 0 where the table has none.
+// in five digits each, from the lowest on. The table has none for a j below 64.
 fn word(j: u8) -> u32
     ensures { λ r. ⌜ Word j r ⌝ }
 {

@@ -1,6 +1,5 @@
-// From the table's entry to the nearest whole number, in whole numbers. Each step is Heron's, with a divisor that is a little too
-// large, so that what is found is never above the root; the last is told from its neighbour by one comparison.
-ghost use mathlib.Core.Path.{_≡_};
+// From the table's entry to the nearest whole number, in whole numbers. Each step divides what is left by a little too much, so
+// that what is found is never above the root; which of two neighbours is nearest, one comparison tells in the end.
 ghost use Prim.Native.Nat.{_+_, _*_, _^_, _≤_, _<_};
 ghost use Rattle.whole_roots.specs.Table.{Nearest};
 use super::packed;
@@ -54,7 +53,7 @@ pub fn nearest53(n: u64) -> u64
     let p = t / (d + 2);
     let r = s * 0x400_0000 + p;
     if (t - p * d) * 0x400_0000 > p * p + r {
-        r + 1 // n * 2^52 does
+        r + 1 // n * 2^52 lies above the square of r and a half
     } else {
         r
     }

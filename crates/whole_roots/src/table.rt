@@ -1,6 +1,5 @@
 // The table: for k from 256 to 1023 the whole part of the root of k * 65536.
-ghost use mathlib.Core.Path.{_≡_};
-ghost use Prim.Native.Nat.{_+_, _*_, _≤_, _<_};
+ghost use Prim.Native.Nat.{_≤_, _<_};
 ghost use Rattle.whole_roots.specs.Table.{Entry};
 
 // The table's entry for k.

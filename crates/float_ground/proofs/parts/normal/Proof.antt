@@ -2,7 +2,7 @@
 use borrow.Author.Needs.{needs}
 use mathlib.Core.Path.{_≡_, refl, sym, ap, _∙_}
 use Prim.Native.Nat.{ℕ, _+_, _-_, _*_, _%_, _^_, _≤_}
-use native.Mathlib.Nat.{lt-of-lt-of-le, mod-eq-of-lt, mul-assoc, add-comm, sub-add-cancel}
+use native.Mathlib.Nat.{le-trans, lt-of-lt-of-le, mod-eq-of-lt, mul-assoc, add-comm, sub-add-cancel}
 use native.Mathlib.Omega.{arith}
 use lib.Dec.{lit≤}
 use lib.Pow.{pow-add}
@@ -12,20 +12,23 @@ use Rattle.float_ground.proofs.parts.normal.Statement.{statement}
 use Rattle.float_ground.proofs.parts.normal.Tie as tie
 
 module _ (c : tie.Start) where
-  of-m : (9 ≤ leadingZeros 64 (c .args .m)) × Shift (c .args .m) (leadingZeros 64 (c .args .m) - 9)
-  of-m = shift (c .args .m) (c .pre .0) (c .pre .1 .0)
+  abbrev m : ℕ
+  m = c .args .m
 
   abbrev z : ℕ
-  z = leadingZeros 64 (c .args .m) - 9
+  z = leadingZeros 64 m - 9
+
+  of-m : Shift 64 9 54 m z
+  of-m = shift 64 9 54 m z refl (c .pre .0) (lt-of-lt-of-le (c .pre .1 .0) (lit≤ tt)) refl
 
   few : z ≤ 54
-  few = of-m .1 .most
+  few = omega (arith, of-m .few)
 
-  plain : c .args .m * 2 ^ z % 2 ^ 64 ≡ c .args .m * 2 ^ z
-  plain = mod-eq-of-lt (lt-of-lt-of-le (of-m .1 .under) (lit≤ tt))
+  plain : m * 2 ^ z % 2 ^ 64 ≡ m * 2 ^ z
+  plain = mod-eq-of-lt (lt-of-lt-of-le (of-m .under) (lit≤ tt))
 
 sub-z : tie.Need-sub-z
-sub-z c = of-m c .0
+sub-z c = omega (arith, of-m c .some)
 
 cast-z : tie.Need-cast-z
 cast-z c = omega (arith, few c)
@@ -46,16 +49,16 @@ back m z e h =
 
 returns : tie.Need-returns
 returns c =
-    let S = of-m c .1 in
+    let S = of-m c in
     let p = plain c in
     let e = c .args .j + c .args .lowest in
     let le : z c ≤ e = omega (arith, few c) in
     record {
       tidy = record { at-least = rw p (S .at-least); under = rw p (S .under); room = omega arith };
       sign = refl;
-      value = rw p (back (c .args .m) (z c) e le);
+      value = rw p (back (m c) (z c) e le);
       least = omega (arith, few c);
-      clear = λ q Q h. rw p (S .clear q Q h);
+      clear = λ q Q h. rw p (S .clear q (le-trans Q (lit≤ tt)) h);
     }
 
 pub normal-spec : {M : Type 1} → statement M

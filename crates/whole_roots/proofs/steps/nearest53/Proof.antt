@@ -1,13 +1,21 @@
--- `whole_roots::steps::nearest53` meets its contract, by the laws of `Heron`. Assumes nothing.
+-- `whole_roots::steps::nearest53` meets its contract, by the laws of `Last`. Assumes nothing.
 use borrow.Author.Needs.{needs}
 use mathlib.Core.Path.{_≡_, subst}
-use Prim.Native.Nat.{ℕ, _+_, _-_, _*_, _/_, _≤_, _<_}
+use mathlib.Core.Logic.{_⊎_, inl, inr}
+use Prim.Native.Nat.{ℕ, _+_, _-_, _*_, _≤_, _<_}
+use native.Mathlib.Nat.{mul-le-mul-right}
 use native.Mathlib.Omega.{arith}
 use Rattle.whole_roots.specs.Table.{Nearest}
-use Rattle.whole_roots.proofs.Heron as heron
+use Rattle.whole_roots.proofs.Heron.{split, twice}
+use Rattle.whole_roots.proofs.Last as last
 use Rattle.whole_roots.proofs.Only.{root-lt}
 use Rattle.whole_roots.proofs.steps.nearest53.Statement.{statement}
 use Rattle.whole_roots.proofs.steps.nearest53.Tie as tie
+
+-- where p is small by itself, else by the squares
+enough : (p s : ℕ) → 67108864 ≤ s → (p ≤ 25165824) ⊎ (25165824 ≤ p) → 134217728 * p + 67108864 ≤ p * p + 67108864 * s + 3 * p
+enough p s lo (inl l) = omega arith
+enough p s lo (inr l) = omega (arith, twice p 67108864)
 
 module _ (c : tie.After-near27) where
   abbrev n : ℕ
@@ -18,9 +26,6 @@ module _ (c : tie.After-near27) where
 
   abbrev rest : ℕ
   rest = n - s * s
-
-  abbrev p : ℕ
-  p = rest * 67108864 / (s + s + 2)
 
   lo : 67108864 ≤ s
   lo = omega (arith, c .near27 .ensures .0)
@@ -34,11 +39,23 @@ module _ (c : tie.After-near27) where
   few : rest < 4 * s
   few = omega (arith, n-is, c .near27 .ensures .1 .1)
 
-  p-most : p ≤ 134217727
-  p-most = heron.p-most53 s rest lo few
+  some : 0 < s + s + 2
+  some = omega arith
 
-  square-lt : p * p < 18014398509481984
-  square-lt = omega (arith, heron.p-square53 s rest lo few, p-most)
+  abbrev p : ℕ
+  p = last.p 67108864 2 s rest some
+
+  p-most : p ≤ 134217727
+  p-most = let l : rest * 67108864 < 134217728 * (s + s + 2) = omega (arith, few, lo) in last.p-most 67108864 2 s rest some 134217727 l
+
+  square-le : p * p ≤ 134217727 * p
+  square-le = mul-le-mul-right p p-most
+
+  part-le : p * (s + s) ≤ rest * 67108864
+  part-le = last.ps-le 67108864 2 s rest some
+
+  u-lt : last.u 67108864 2 s rest some < s + s + 2 + 2 * p
+  u-lt = last.u-lt 67108864 2 s rest some
 
 near27-requires : tie.Need-near27-requires
 near27-requires c κs = search needs
@@ -68,19 +85,19 @@ add-r : tie.Need-add-r
 add-r c = record { fits = omega (arith, hi c, p-most c) }
 
 mul-if1 : tie.Need-mul-if1
-mul-if1 c = record { fits = omega (arith, heron.part-le53 (s c) (rest c) (lo c) (few c), few c, hi c) }
+mul-if1 c = record { fits = omega (arith, part-le c, few c, hi c) }
 
 sub-if1 : tie.Need-sub-if1
-sub-if1 c = heron.part-le53 (s c) (rest c) (lo c) (few c)
+sub-if1 c = part-le c
 
 mul-if1-2 : tie.Need-mul-if1-2
-mul-if1-2 c = record { fits = omega (arith, heron.u-lt53 (s c) (rest c) (lo c) (few c), p-most c, hi c) }
+mul-if1-2 c = record { fits = omega (arith, u-lt c, p-most c, hi c) }
 
 mul-if1-3 : tie.Need-mul-if1-3
-mul-if1-3 c = record { fits = omega (arith, square-lt c) }
+mul-if1-3 c = record { fits = omega (arith, square-le c, p-most c) }
 
 add-if1 : tie.Need-add-if1
-add-if1 c = record { fits = omega (arith, hi c, p-most c, square-lt c) }
+add-if1 c = record { fits = omega (arith, square-le c, p-most c, hi c) }
 
 add-result : tie.Need-add-result
 add-result c = record { fits = omega (arith, hi (c .before), p-most (c .before)) }
@@ -88,12 +105,14 @@ add-result c = record { fits = omega (arith, hi (c .before), p-most (c .before))
 returns : tie.Need-returns
 returns c =
     let a = c .before in
-    subst (λ (m : ℕ). Nearest (m * 4503599627370496) (s a * 67108864 + p a + 1)) (n-is a) (heron.up53 (s a) (rest a) (lo a) (few a) (c .if1 .taken))
+    subst (λ (m : ℕ). Nearest (m * 4503599627370496) (s a * 67108864 + p a + 1)) (n-is a)
+    (last.goes-up 67108864 2 (s a) (rest a) (some a) (c .if1 .taken) (omega (arith, u-lt a, enough (p a) (s a) (lo a) (split (p a) 25165824))))
 
 returns-2 : tie.Need-returns-2
 returns-2 c =
     let a = c .before in
-    subst (λ (m : ℕ). Nearest (m * 4503599627370496) (s a * 67108864 + p a)) (n-is a) (heron.stays53 (s a) (rest a) (lo a) (few a) (c .if1 .left))
+    subst (λ (m : ℕ). Nearest (m * 4503599627370496) (s a * 67108864 + p a)) (n-is a)
+    (last.stays 67108864 2 (s a) (rest a) (some a) (c .if1 .left) (omega (arith, last.u-ge 67108864 2 (s a) (rest a) (some a), square-le a, lo a)))
 
 pub nearest53-spec : {M : Type 1} → statement M
 nearest53-spec =
