@@ -2,6 +2,7 @@ pub mod Agree
 pub mod AnyRule
 pub mod Ceilings
 pub mod Levels
+pub mod OneWay
 pub mod Sources
 pub mod Unique
 pub mod Ways

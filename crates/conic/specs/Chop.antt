@@ -12,7 +12,8 @@ use Rattle.conic.specs.declared.Rule.{Rule}
 use Rattle.conic.specs.declared.chopping.Line.{Line}
 use Rattle.conic.specs.declared.chopping.Lines.{Lines}
 use Rattle.conic.specs.declared.depth.Depth.{Depth}
-use Rattle.conic.specs.Mend.{mendedOf, staysOf}
+use Rattle.conic.specs.declared.ruling.Test.{Test}
+use Rattle.conic.specs.Mend.{mendedOf, settledBy}
 use Rattle.conic.specs.Rule.{Axis, X, Y, testAlong}
 
 abbrev pub conicFrom : Point → Point → Point → Float → Rule → Conic
@@ -91,12 +92,19 @@ mendedLine k c l = mendedOf (testAlong k (c .rule)) (along k (c .p0)) (along k (
 abbrev pub mendedLines : Conic → Lines → Lines
 mendedLines c l = record { x = mendedLine X c (l .x); y = mendedLine Y c (l .y) }
 
--- a line is left as it is, and both are
-abbrev pub staysLine : Axis → Conic → Line → Bool
-staysLine k c l = staysOf (testAlong k (c .rule)) (along k (c .p0)) (along k (c .p1)) (along k (c .p2)) l
+-- the same by a test for each axis
+abbrev pub mendedBy : Test → Test → Conic → Lines → Lines
+mendedBy t u c l = record {
+  x = mendedOf t (c .p0 .x) (c .p1 .x) (c .p2 .x) (l .x);
+  y = mendedOf u (c .p0 .y) (c .p1 .y) (c .p2 .y) (l .y);
+}
 
-abbrev pub stayingLines : Conic → Lines → Bool
-stayingLines c l = staysLine Y c (l .y) && staysLine X c (l .x)
+-- each line that the rule puts in order is settled, so that both are left as they are (proofs/Whole)
+abbrev pub settledLine : Axis → Conic → Line → Bool
+settledLine k c l = settledBy (testAlong k (c .rule)) (along k (c .p0)) (along k (c .p2)) l
+
+abbrev pub settledLines : Conic → Lines → Bool
+settledLines c l = settledLine Y c (l .y) && settledLine X c (l .x)
 
 -- what all conics of weight w share
 abbrev pub depthOf : Float → Depth

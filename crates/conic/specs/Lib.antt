@@ -1,6 +1,7 @@
 pub mod Agree
 pub mod Between
 pub mod Chop
+pub mod Laws
 pub mod Level
 pub mod Mend
 pub mod Refusal

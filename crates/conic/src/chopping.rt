@@ -1,10 +1,11 @@
 // The formulas of a chop, one axis at a time. Carried over from `path_geometry.rs` of tiny-skia-path 0.12.0.
 ghost use mathlib.Core.Path.{_≡_};
-ghost use Rattle.conic.specs.Chop.{lineOf, withMiddle, wideMiddle, plainLines, wholeMiddle, linesAt, mendedLines, stayingLines, halvesAt};
+ghost use Rattle.conic.specs.Chop.{lineOf, wideMiddle, plainLines, wholeMiddle, linesAt, mendedBy, mendedLines, settledLines, halvesAt};
 use crate::Conic;
 use crate::Halves;
+use crate::Rule;
 use crate::mending;
-use crate::ruling;
+use crate::ruling::Test;
 use float_ground::Narrowed;
 use point::Point;
 
@@ -49,17 +50,6 @@ fn wide_middle(a: f32, b: f32, c: f32, weight: f32) -> f32
     }
 }
 
-// The line with its middle computed again.
-fn widened(l: Line, a: f32, b: f32, c: f32, weight: f32) -> Line
-    ensures { λ r. ⌜ r ≡ withMiddle l (wideMiddle a b c weight) ⌝ }
-{
-    Line {
-        left: l.left,
-        middle: wide_middle(a, b, c, weight),
-        right: l.right,
-    }
-}
-
 // Both axes of a chop, as the formulas give them.
 pub fn plain_lines(c: Conic, scale: f32) -> Lines
     ensures { λ r. ⌜ r ≡ plainLines scale c ⌝ }
@@ -88,32 +78,61 @@ pub fn chopped(c: Conic, scale: f32) -> Lines
     if is_whole(l) {
         return l;
     }
-    let x = widened(l.x, c.p0.x, c.p1.x, c.p2.x, c.weight);
-    let y = widened(l.y, c.p0.y, c.p1.y, c.p2.y, c.weight);
+    let x = Line {
+        left: l.x.left,
+        middle: wide_middle(c.p0.x, c.p1.x, c.p2.x, c.weight),
+        right: l.x.right,
+    };
+    let y = Line {
+        left: l.y.left,
+        middle: wide_middle(c.p0.y, c.p1.y, c.p2.y, c.weight),
+        right: l.y.right,
+    };
     Lines { x, y }
 }
 
-// Whether `mended` would leave both lines of c.
-pub fn stay(c: Conic, l: Lines) -> bool
-    ensures { λ r. ⌜ r ≡ stayingLines c l ⌝ }
+// Whether each line that c's rule puts in order runs one way over a finite distance, so that `mended` leaves both.
+pub fn is_settled(c: Conic, l: Lines) -> bool
+    ensures { λ r. ⌜ r ≡ settledLines c l ⌝ }
 {
+    if !mending::is_settled(c.p0.y, c.p2.y, l.y) {
+        return false;
+    }
     let rule = c.rule;
-    let y = mending::stays(ruling::along_y(rule), c.p0.y, c.p1.y, c.p2.y, l.y);
-    let x = mending::stays(ruling::along_x(rule), c.p0.x, c.p1.x, c.p2.x, l.x);
-    y & x
+    match rule {
+        Rule::Product => true,
+        Rule::Exact => true,
+        Rule::BothAxes => mending::is_settled(c.p0.x, c.p2.x, l.x),
+    }
 }
 
-// The lines of c, each put in order where its rule asks for it along that axis.
+// The lines of c, each put in order by its test.
+fn mended_by(x: Test, y: Test, c: Conic, l: Lines) -> Lines
+    ensures { λ r. ⌜ r ≡ mendedBy x y c l ⌝ }
+{
+    let mended_x = mending::mended(x, c.p0.x, c.p1.x, c.p2.x, l.x);
+    let mended_y = mending::mended(y, c.p0.y, c.p1.y, c.p2.y, l.y);
+    Lines {
+        x: mended_x,
+        y: mended_y,
+    }
+}
+
+// The lines of c, each put in order where its rule asks for it along that axis. The rule is looked at once, so that each call
+// below is compiled for the tests that it names.
 pub fn mended(c: Conic, l: Lines) -> Lines
     ensures { λ r. ⌜ r ≡ mendedLines c l ⌝ }
 {
     let rule = c.rule;
-    let x = mending::mended(ruling::along_x(rule), c.p0.x, c.p1.x, c.p2.x, l.x);
-    let y = mending::mended(ruling::along_y(rule), c.p0.y, c.p1.y, c.p2.y, l.y);
-    Lines { x, y }
+    match rule {
+        Rule::Product => mended_by(Test::Never, Test::Product, c, l),
+        Rule::Exact => mended_by(Test::Never, Test::Exact, c, l),
+        Rule::BothAxes => mended_by(Test::Exact, Test::Exact, c, l),
+    }
 }
 
-// c itself, put together number by number: what is handed on stands in memory, and c then need not.
+// c itself, put together number by number. What is handed on by value stands in memory: read back in other pieces than it was
+// stored in, it is waited for.
 pub fn put_together(c: Conic) -> Conic
     ensures { λ r. ⌜ r ≡ c ⌝ }
 {

@@ -30,24 +30,8 @@ impl Depth {
         }
     }
 
-    // Both halves of c, moved into order as its rule asks. Mostly the middle is finite at once and the lines stay, so that is
-    // asked first. The rest is left to a call that is hardly ever made: of a conic put together for it, so that c itself need
-    // not stand in memory, and from two places, so that it stays a call.
+    // Both halves of c, moved into order as its rule asks.
     pub fn chop(self, c: Conic) -> Halves
-        ensures { λ r. ⌜ r ≡ chopAt self c ⌝ }
-    {
-        let l = chopping::plain_lines(c, self.scale);
-        if !chopping::is_whole(l) {
-            return self.chop_in_full(chopping::put_together(c));
-        }
-        if !chopping::stay(c, l) {
-            return self.chop_in_full(chopping::put_together(c));
-        }
-        chopping::halves(c, l, self.weight)
-    }
-
-    // The same, with each correction.
-    fn chop_in_full(self, c: Conic) -> Halves
         ensures { λ r. ⌜ r ≡ chopAt self c ⌝ }
     {
         let l = chopping::chopped(c, self.scale);

@@ -11,7 +11,7 @@ ghost use Rattle.conic.specs.Source.{conicOf, shortSource, Taken};
 use depth::Depth;
 use point::Point;
 
-mod chopping;
+pub mod chopping;
 pub mod depth;
 mod leveling;
 mod mending;

@@ -1,8 +1,6 @@
-// Which axes a rule puts in order, and by which test.
+// The between tests that a rule puts an axis in order by.
 ghost use mathlib.Core.Path.{_≡_};
 ghost use Rattle.conic.specs.Between.{passes};
-ghost use Rattle.conic.specs.Rule.{X, Y, testAlong};
-use crate::Rule;
 use crate::between_exact;
 use crate::between_product;
 
@@ -11,28 +9,6 @@ pub enum Test {
     Never,
     Product,
     Exact,
-}
-
-// The rule's test along y.
-pub fn along_y(rule: Rule) -> Test
-    ensures { λ r. ⌜ r ≡ testAlong Y rule ⌝ }
-{
-    match rule {
-        Rule::Product => Test::Product,
-        Rule::Exact => Test::Exact,
-        Rule::BothAxes => Test::Exact,
-    }
-}
-
-// The rule's test along x: that along y, or none.
-pub fn along_x(rule: Rule) -> Test
-    ensures { λ r. ⌜ r ≡ testAlong X rule ⌝ }
-{
-    match rule {
-        Rule::Product => Test::Never,
-        Rule::Exact => Test::Never,
-        Rule::BothAxes => along_y(rule),
-    }
 }
 
 // Whether b passes the test against a and c.

@@ -1,5 +1,6 @@
 -- The rungs of a cut: storing them from the top down leaves them all, and what a chop by a rung gives. Assumes nothing.
-use mathlib.Core.Path.{_≡_, refl, _∙_}
+use mathlib.Core.Path.{_≡_, refl, ap, _∙_}
+use mathlib.Core.Bool.{true}
 use mathlib.Core.List.{List}
 use Prim.Native.Nat.{ℕ, zero, suc, _+_, _-_, _*_, _≤_, _<_}
 use native.Mathlib.Numerals.{sub-one}
@@ -9,10 +10,12 @@ use lib.Seq.{getD-set-same, getD-set-other}
 use lib.Ieee.{Float, nan}
 use Rattle.conic.specs.declared.Conic.{Conic}
 use Rattle.conic.specs.declared.Halves.{Halves}
+use Rattle.conic.specs.declared.chopping.Lines.{Lines}
 use Rattle.conic.specs.declared.depth.Depth.{Depth}
-use Rattle.conic.specs.Chop.{scaleOf, weightOf, halvesAt, chopAt, chopByRule}
+use Rattle.conic.specs.Chop.{scaleOf, weightOf, plainLines, wholeMiddle, settledLines, halvesAt, chopAt, chopByRule}
+use Rattle.conic.proofs.OneWay.{plain-is-the-chop}
 use Rattle.conic_cut.specs.Cut.{cutPoints}
-use Rattle.conic_cut.specs.Ladder.{rungsOf, Rungs}
+use Rattle.conic_cut.specs.Ladder.{rungsOf, rungAt, Rungs}
 
 -- one rung, and then those below it
 pub rungs-more : (n : ℕ) (l : List Float) (w : Float) → 1 < n
@@ -63,7 +66,7 @@ rungs-hold (suc (suc n)) l w h =
     )
 
 -- the rung at hand, and those below it
-pub rung : (n : ℕ) (l : List Float) (w : Float) → (n ≡ 0 → ⊥) → Rungs l n w
+rung : (n : ℕ) (l : List Float) (w : Float) → (n ≡ 0 → ⊥) → Rungs l n w
     → (getD l (2 * (n - 1)) nan ≡ scaleOf w) × (((n - 1 ≡ 0 → ⊥) → getD l (2 * (n - 1) + 1) nan ≡ weightOf w) × Rungs l (n - 1) (weightOf w))
 unfolding Rungs
 rung zero l w nz h = absurd (nz refl)
@@ -76,10 +79,22 @@ pub record Halved (n : ℕ) (l : List Float) (c : Conic) (h : Halves) : Type 0 w
   pub first-rungs : Rungs l n (h .first .weight)
   pub second-rungs : Rungs l n (h .second .weight)
 
-pub chop-rung : (n : ℕ) (l : List Float) (c : Conic) (d : Depth) (h : Halves) → d .scale ≡ scaleOf (c .weight)
+chop-rung : (n : ℕ) (l : List Float) (c : Conic) (d : Depth) (h : Halves) → d .scale ≡ scaleOf (c .weight)
     → ((n ≡ 0 → ⊥) → d .weight ≡ weightOf (c .weight)) → Rungs l n (weightOf (c .weight)) → h ≡ chopAt d c → Halved n l c h
 unfolding chopByRule chopAt halvesAt cutPoints Rungs
 chop-rung zero l c d h es ew r e = rw (e, es) (record { first = refl; second = refl; first-rungs = tt; second-rungs = tt })
 chop-rung (suc n) l c d h es ew r e =
     let w = ew (λ z. omega (arith, z)) in
     rw (e, es, w) (record { first = refl; second = refl; first-rungs = r; second-rungs = r })
+
+-- halves by the rung of the level n, which are cut further at the next
+pub halved : (n : ℕ) (l : List Float) (c : Conic) (h : Halves) → 1 ≤ n → Rungs l n (c .weight) → h ≡ chopAt (rungAt l n) c → Halved (n - 1) l c h
+halved n l c h p r e =
+    let k = rung n l (c .weight) (λ z. omega (arith, z)) r in
+    chop-rung (n - 1) l c (rungAt l n) h (k .0) (k .1 .0) (k .1 .1) e
+
+-- the same of a chop that needs no correction
+pub halved-plain : (n : ℕ) (l : List Float) (c : Conic) (d : Depth) (k : Lines) (h : Halves) → 1 ≤ n → Rungs l n (c .weight) → d ≡ rungAt l n
+    → k ≡ plainLines (d .scale) c → wholeMiddle k ≡ true → settledLines c k ≡ true → h ≡ halvesAt (d .weight) c k → Halved (n - 1) l c h
+halved-plain n l c d k h p r ed ek w s eh =
+    halved n l c h p r (eh ∙ plain-is-the-chop d c k ek w s ∙ ap (λ (e : Depth). chopAt e c) ed)

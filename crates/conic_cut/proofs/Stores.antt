@@ -15,7 +15,7 @@ use Rattle.point.specs.Numbers.{flat, pointsOf, pointAt}
 use Rattle.point.specs.Point.{pointFinite}
 use Rattle.conic.specs.declared.Conic.{Conic}
 use Rattle.conic.specs.declared.Halves.{Halves}
-use Rattle.conic_cut.specs.Cut.{cutPoints, allFinite, plain, pinned, written}
+use Rattle.conic_cut.specs.Cut.{cutPoints, halfPoints, allFinite, plain, pinned, written}
 use Rattle.conic_cut.proofs.Lists.{sets-then, sets-again, sets-take}
 
 -- ---- powers and lengths
@@ -73,25 +73,51 @@ pub stored-zero : (f : Conic → Halves) (n : ℕ) (c : Conic) (l l₁ : List Fl
 unfolding cutPoints
 stored-zero f n c l l₁ at r h e = rw h (omega (arith, e .0), e .1)
 
+-- h is the halves, or others that are stored alike
+pub stored-halves : (f : Conic → Halves) (n : ℕ) (c : Conic) (h : Halves) (l l₁ : List Float) (at r : ℕ) → n ≡ 1
+    → cutPoints f (n - 1) (h .first) ≡ cutPoints f (n - 1) (f c .first) → cutPoints f (n - 1) (h .second) ≡ cutPoints f (n - 1) (f c .second)
+    → (r ≡ at + 8) × (l₁ ≡ sets l at (flat (halfPoints h))) → (r ≡ at + 4 * 2 ^ n) × (l₁ ≡ sets l at (flat (cutPoints f n c)))
+unfolding cutPoints
+stored-halves f n c h l l₁ at r e p q g =
+    let first = rw e at p in
+    let second = rw e at q in
+    let same : halfPoints h ≡ cutPoints f 1 c =
+    ap (λ (ps : List Point). ps ++ cutPoints f 0 (h .second)) first ∙ ap (λ (ps : List Point). cutPoints f 0 (f c .first) ++ ps) second in
+    rw e (omega (arith, g .0), g .1 ∙ ap (λ (ps : List Point). sets l at (flat ps)) same)
+
 cut-more : (f : Conic → Halves) (n : ℕ) (c : Conic) → (n ≡ 0 → ⊥)
-    → flat (cutPoints f n c) ≡ flat (cutPoints f (n - 1) (f c .first)) ++ flat (cutPoints f (n - 1) (f c .second))
+    → cutPoints f n c ≡ cutPoints f (n - 1) (f c .first) ++ cutPoints f (n - 1) (f c .second)
 unfolding cutPoints
 cut-more f zero c h = absurd (h refl)
-cut-more f (suc n) c h = rw sub-one (flat-append (cutPoints f n (f c .first)) (cutPoints f n (f c .second)))
+cut-more f (suc n) c h = rw sub-one refl
+
+-- two cuts, one after the other
+pub stored-both : (f : Conic → Halves) (n : ℕ) (a b : Conic) (l l₁ l₂ : List Float) (at r₁ r₂ : ℕ)
+    → (r₁ ≡ at + 4 * 2 ^ n) × (l₁ ≡ sets l at (flat (cutPoints f n a))) → (r₂ ≡ r₁ + 4 * 2 ^ n) × (l₂ ≡ sets l₁ r₁ (flat (cutPoints f n b)))
+    → (r₂ ≡ at + 8 * 2 ^ n) × (l₂ ≡ sets l at (flat (cutPoints f n a ++ cutPoints f n b)))
+stored-both f n a b l l₁ l₂ at r₁ r₂ e g =
+    let p = flat (cutPoints f n a) in
+    let q = flat (cutPoints f n b) in (
+      omega (arith, e .0, g .0),
+      g .1 ∙ ap (λ (k : List Float). sets k r₁ q) (e .1) ∙ sets-then p q l at r₁ (omega (arith, e .0, numbers-length f n a))
+          ∙ ap (sets l at) (sym (flat-append (cutPoints f n a) (cutPoints f n b))),
+    )
 
 -- a and b are the halves, or others that are cut alike
+pub stored-joined : (f : Conic → Halves) (n : ℕ) (c a b : Conic) (l l₂ : List Float) (at r₂ : ℕ) → (n ≡ 0 → ⊥)
+    → cutPoints f (n - 1) a ≡ cutPoints f (n - 1) (f c .first) → cutPoints f (n - 1) b ≡ cutPoints f (n - 1) (f c .second)
+    → (r₂ ≡ at + 8 * 2 ^ (n - 1)) × (l₂ ≡ sets l at (flat (cutPoints f (n - 1) a ++ cutPoints f (n - 1) b)))
+    → (r₂ ≡ at + 4 * 2 ^ n) × (l₂ ≡ sets l at (flat (cutPoints f n c)))
+stored-joined f n c a b l l₂ at r₂ nz ea eb g =
+    (omega (arith, g .0, pow-more n nz), g .1 ∙ rw (ea, eb) (ap (λ (ps : List Point). sets l at (flat ps)) (sym (cut-more f n c nz))))
+
 pub stored-more : (f : Conic → Halves) (n : ℕ) (c a b : Conic) (l l₁ l₂ : List Float) (at r₁ r₂ : ℕ) → (n ≡ 0 → ⊥)
     → cutPoints f (n - 1) a ≡ cutPoints f (n - 1) (f c .first) → cutPoints f (n - 1) b ≡ cutPoints f (n - 1) (f c .second)
     → (r₁ ≡ at + 4 * 2 ^ (n - 1)) × (l₁ ≡ sets l at (flat (cutPoints f (n - 1) a)))
     → (r₂ ≡ r₁ + 4 * 2 ^ (n - 1)) × (l₂ ≡ sets l₁ r₁ (flat (cutPoints f (n - 1) b)))
     → (r₂ ≡ at + 4 * 2 ^ n) × (l₂ ≡ sets l at (flat (cutPoints f n c)))
 stored-more f n c a b l l₁ l₂ at r₁ r₂ nz ea eb e g =
-    let p = flat (cutPoints f (n - 1) a) in
-    let q = flat (cutPoints f (n - 1) b) in
-    let both : p ++ q ≡ flat (cutPoints f n c) = rw (ea, eb) (sym (cut-more f n c nz)) in (
-      omega (arith, pow-more n nz),
-      g .1 ∙ ap (λ (k : List Float). sets k r₁ q) (e .1) ∙ sets-then p q l at r₁ (omega (arith, numbers-length f (n - 1) a)) ∙ ap (sets l at) both,
-    )
+    stored-joined f n c a b l l₂ at r₂ nz ea eb (stored-both f (n - 1) a b l l₁ l₂ at r₁ r₂ e g)
 
 -- ---- the same point stored n times
 pub pin-more : (p : Point) (n i next : ℕ) (l l₁ : List Float) → i < n → l₁ ≡ sets l next (flat (p ∷ []))

@@ -24,6 +24,10 @@ unfoldable pub cutPoints : (Conic → Halves) → ℕ → Conic → List Point
 cutPoints f zero c = c .p1 ∷ c .p2 ∷ []
 cutPoints f (suc n) c = cutPoints f n (f c .first) ++ cutPoints f n (f c .second)
 
+-- those of both halves, each as a quad
+abbrev pub halfPoints : Halves → List Point
+halfPoints h = h .first .p1 ∷ h .first .p2 ∷ h .second .p1 ∷ h .second .p2 ∷ []
+
 unfoldable pub allFinite : List Point → Bool
 allFinite [] = true
 allFinite (p ∷ ps) = pointFinite p && allFinite ps

@@ -1,10 +1,11 @@
 -- What all conics of one depth of a cut share, two numbers for each level: the scale of a chop there, and the weight of the halves.
 -- Halves of level 0 are not cut again, and their weight is not there (docs/RULES.md, "Conics"). Definitions only.
-use Prim.Native.Nat.{ℕ, zero, suc, _+_, _*_}
+use Prim.Native.Nat.{ℕ, zero, suc, _+_, _-_, _*_}
 use mathlib.Core.Path.{_≡_}
 use mathlib.Core.List.{List}
 use lib.ListN.{getD, set}
 use lib.Ieee.{Float, nan}
+use Rattle.conic.specs.declared.depth.Depth.{Depth}
 use Rattle.conic.specs.Chop.{scaleOf, weightOf}
 use Rattle.conic.specs.Level.{ceiling}
 
@@ -17,6 +18,10 @@ unfoldable pub rungsOf : List Float → ℕ → Float → List Float
 rungsOf l zero w = l
 rungsOf l (suc zero) w = set l 0 (scaleOf w)
 rungsOf l (suc (suc n)) w = rungsOf (set (set l (2 * suc n) (scaleOf w)) (2 * suc n + 1) (weightOf w)) (suc n) (weightOf w)
+
+-- the one of the level n
+abbrev pub rungAt : List Float → ℕ → Depth
+rungAt l n = record { scale = getD l (2 * (n - 1)) nan; weight = getD l (2 * (n - 1) + 1) nan }
 
 -- l has them
 unfoldable pub Rungs : List Float → ℕ → Float → Type 0

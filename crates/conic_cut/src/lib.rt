@@ -20,6 +20,8 @@ use conic::Rule;
 use point::Point;
 
 mod cutting;
+mod storing;
+mod subdividing;
 
 // How many quads were written.
 pub enum Cut {

@@ -1,4 +1,5 @@
 pub mod Apart
+pub mod Differences
 pub mod Kept
 pub mod Narrowed
 pub mod NearRoot

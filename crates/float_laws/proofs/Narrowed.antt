@@ -43,7 +43,7 @@ neg-units f s q k = go (ltb (q * 2 ^ k) (2 ^ (low f + suc (emax f))))
     go true = neg-odd (suc (prec f)) s q k (low f)
     go false = refl
 
-neg-round : (f : Format) (s : Bool) (a c : ℕ) → round f (not s) a c ≡ neg (round f s a c)
+pub neg-round : (f : Format) (s : Bool) (a c : ℕ) → round f (not s) a c ≡ neg (round f s a c)
 neg-round f s a c = round-is f (not s) a c ∙ neg-units f s _ _ ∙ sym (ap neg (round-is f s a c))
 
 pub round-neg : (f : Format) (x : Float) → roundTo f (neg x) ≡ neg (roundTo f x)
@@ -80,14 +80,14 @@ pub le-neg : (x y : Float) → T (le y x) → T (le (neg x) (neg y))
 le-neg x y h = subst T (le-is y x ∙ ap notMore (sym (neg-versus x y)) ∙ sym (le-is (neg x) (neg y))) h
 
 -- the two zeros, and what lies on either side of them
-zero-is : (f : Format) (s : Bool) → round f s 0 1 ≡ fin s 0 (pos 0)
+pub zero-is : (f : Format) (s : Bool) → round f s 0 1 ≡ fin s 0 (pos 0)
 unfolding round
 zero-is binary32 true = refl
 zero-is binary32 false = refl
 zero-is binary64 true = refl
 zero-is binary64 false = refl
 
-zeros-equal : (s t : Bool) → T (le (fin s 0 (pos 0)) (fin t 0 (pos 0)))
+pub zeros-equal : (s t : Bool) → T (le (fin s 0 (pos 0)) (fin t 0 (pos 0)))
 unfolding le
 zeros-equal true true = tt
 zeros-equal true false = tt
@@ -105,10 +105,10 @@ to-zero f a c C =
     subst (λ (z : Float). T (le z (fin true 0 (pos 0)))) (sym (neg-round f false a c))
     (le-neg (round f false a c) (fin false 0 (pos 0)) (from-zero f a c C))
 
-none : (f : Format) (s : Bool) (a c : ℕ) → 0 < c → a ≡ 0 → round f s a c ≡ fin s 0 (pos 0)
+pub none : (f : Format) (s : Bool) (a c : ℕ) → 0 < c → a ≡ 0 → round f s a c ≡ fin s 0 (pos 0)
 none f s a c C e = ap (λ (z : ℕ). round f s z c) e ∙ round-same f s 0 c 0 1 C (zero-lt-suc 0) (zero-mul 1 ∙ sym (zero-mul c)) ∙ zero-is f s
 
-round-order : (f : Format) (s t : Bool) (M p N q : ℕ) → 0 < p → 0 < q → LeF s M p t N q → T (le (round f s M p) (round f t N q))
+pub round-order : (f : Format) (s t : Bool) (M p N q : ℕ) → 0 < p → 0 < q → LeF s M p t N q → T (le (round f s M p) (round f t N q))
 round-order f false false M p N q P Q h = round-mono f M p N q P Q h
 round-order f false true M p N q P Q h = rw (none f false M p P (h .0), none f true N q Q (h .1)) (zeros-equal false true)
 round-order f true false M p N q P Q h =

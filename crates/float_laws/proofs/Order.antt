@@ -53,7 +53,7 @@ not-more a b h = go (compare a b) (cmp a b)
     go Ordering·eq c = tt
     go Ordering·gt c = absurd (not-le-of-lt c h)
 
-zero-left : (M q : ℕ) → 0 < q → M * q ≤ 0 → M ≡ 0
+pub zero-left : (M q : ℕ) → 0 < q → M * q ≤ 0 → M ≡ 0
 zero-left M q Q h = elim (eq-zero-or-pos M) [ inl e ↦ e | inr p ↦ absurd (lt-irrefl 0 (lt-of-lt-of-le (mul-pos p Q) h)) ]
 
 none : (a : ℕ) → T (notMore (signed false a)) → a ≡ 0
@@ -172,7 +172,7 @@ finite-between x y z p q h k = squeezed x y z p q (rw (le-is x y) at h) (rw (le-
 
 -- ---- a finite product has finite factors
 
-no-cond : (b : Bool) (x y : Float) → (T (finite x) → ⊥) → (T (finite y) → ⊥) → T (finite (cond b x y)) → ⊥
+pub no-cond : (b : Bool) (x y : Float) → (T (finite x) → ⊥) → (T (finite y) → ⊥) → T (finite (cond b x y)) → ⊥
 no-cond true x y p q h = p h
 no-cond false x y p q h = q h
 

@@ -16,7 +16,7 @@ unfolding linesAt
 returns-2 c =
     let was = c .before .before in
     let lines = was .before .before .plain-lines in
-    rw (c .widened2 .ensures, c .before .widened .ensures, lines .ensures)
+    rw (c .wide-middle2 .ensures, c .before .wide-middle .ensures, lines .ensures)
     (lines-wide _ _ (lines .result) (lines .ensures) (sym (was .before .is-whole .ensures) ∙ was .if1 .left))
 
 pub chopped-spec : {M : Type 1} → statement M

@@ -1,34 +1,15 @@
 -- `store_cut` meets its contract, with the points as they are cut and with the interior pinned. Assumes nothing.
-use mathlib.Core.Path.{subst⁻¹}
-use mathlib.Core.List.{List}
-use native.Mathlib.Omega.{arith}
 use borrow.Author.Needs.{needs}
-use lib.ListN.{replicate, length-replicate}
-use lib.Ieee.{Float}
-use Prim.Native.Nat.{_*_}
-use Rattle.float_laws.specs.Formula.{zero32}
 use Rattle.conic.specs.Chop.{chopByRule}
-use Rattle.conic_cut.specs.Ladder.{deepest, Rungs}
-use Rattle.conic_cut.proofs.Ladder.{rungs-hold}
 use Rattle.conic_cut.proofs.Stores.{stored-fine, stored-pinned}
 use Rattle.conic_cut.proofs.cutting.store_cut.Statement.{statement}
 use Rattle.conic_cut.proofs.cutting.store_cut.Tie as tie
 
-ladder-requires : tie.Need-ladder-requires
-ladder-requires c κs = search needs
-
 put-requires : tie.Need-put-requires
 put-requires c κs = search needs
 
-subdivide-requires : tie.Need-subdivide-requires
-subdivide-requires c κs =
-    let s = c .before .before .before .before .before .before .before .before .before in
-    let put = c .before .before .before .before .put in
-    let made = c .before .before .before .before .before .before .ladder in
-    let empty = replicate (2 * deepest) zero32 in
-    let held = rungs-hold (s .args .level) empty (s .args .c .weight) (omega (arith, s .pre .1, length-replicate (2 * deepest) zero32)) in
-    let there = subst⁻¹ (λ (l : List Float). Rungs l (s .args .level) (s .args .c .weight)) (made .ensures) held in
-    (omega (arith, s .pre .0, put .ensures .0, put .kept .0), (s .pre .1, there))
+cut-requires : tie.Need-cut-requires
+cut-requires c κs = search needs
 
 sub-all-finite : tie.Need-sub-all-finite
 sub-all-finite c = search needs
@@ -44,10 +25,10 @@ same-length c = search needs
 
 returns : tie.Need-returns
 returns c =
-    let s = c .before .before .before .before .before .before .before .before .before .before .before .before .before .before .before .before in
+    let s = c .before .before .before .before .before .before .before .before .before .before .before .before .before in
     let a = s .args in
-    let put = c .before .before .before .before .before .before .before .before .before .before .before .put in
-    let cut = c .before .before .before .before .before .before .subdivide in
+    let put = c .before .before .before .before .before .before .before .before .before .before .put in
+    let cut = c .before .before .before .before .before .before .cut in
     let test = c .before .all-finite in
     stored-fine chopByRule (a .level) (a .c) (a .out .now) (put .last .0) (cut .last .0) (put .result) (cut .result)
     (put .ensures) (cut .ensures) (s .pre .0) (test .result) (test .ensures) (c .if1 .taken)
@@ -61,10 +42,10 @@ same-length-2 c = search needs
 returns-2 : tie.Need-returns-2
 returns-2 c =
     let tested = c .before .before .before .before .before in
-    let s = tested .before .before .before .before .before .before .before .before .before .before .before .before .before .before .before in
+    let s = tested .before .before .before .before .before .before .before .before .before .before .before .before in
     let a = s .args in
-    let put = tested .before .before .before .before .before .before .before .before .before .before .put in
-    let cut = tested .before .before .before .before .before .subdivide in
+    let put = tested .before .before .before .before .before .before .before .before .before .put in
+    let cut = tested .before .before .before .before .before .cut in
     let test = tested .all-finite in
     let pin = c .before .before .store-pinned in
     stored-pinned chopByRule (a .level) (a .c) (a .out .now) (put .last .0) (cut .last .0) (put .result) (cut .result)
@@ -74,9 +55,8 @@ pub store-cut-spec : {M : Type 1} → statement M
 store-cut-spec =
     tie.close
     (tie.spec
-    ladder-requires
     put-requires
-    subdivide-requires
+    cut-requires
     sub-all-finite
     part-all-finite-start
     part-all-finite-end

@@ -5,8 +5,8 @@ use native.Mathlib.Omega.{arith}
 use borrow.Author.Needs.{needs}
 use Rattle.conic_cut.specs.Ladder.{deepest, rungsOf}
 use Rattle.conic_cut.proofs.Ladder.{rungs-more, rungs-last, rungs-none}
-use Rattle.conic_cut.proofs.cutting.ladder.Statement.{statement}
-use Rattle.conic_cut.proofs.cutting.ladder.Tie as tie
+use Rattle.conic_cut.proofs.subdividing.ladder.Statement.{statement}
+use Rattle.conic_cut.proofs.subdividing.ladder.Tie as tie
 
 abbrev Inv-loop : tie.InvT-loop
 Inv-loop rungs₀ weight level w₀ n₀ rungs w n = (n ≤ deepest) × (rungsOf rungs n w ≡ rungsOf rungs₀ level weight)

@@ -7,8 +7,8 @@ use lib.Seq.{sets}
 use lib.Ieee.{Float}
 use Rattle.point.specs.Numbers.{flat}
 use Rattle.conic_cut.proofs.Lists.{sets-then}
-use Rattle.conic_cut.proofs.cutting.put_quad.Statement.{statement}
-use Rattle.conic_cut.proofs.cutting.put_quad.Tie as tie
+use Rattle.conic_cut.proofs.storing.put_quad.Statement.{statement}
+use Rattle.conic_cut.proofs.storing.put_quad.Tie as tie
 
 put-requires : tie.Need-put-requires
 put-requires c κs = search needs

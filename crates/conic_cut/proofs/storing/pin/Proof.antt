@@ -7,8 +7,8 @@ use lib.Seq.{sets}
 use lib.ListN.{length, replicate}
 use Rattle.conic_cut.proofs.Stores.{pin-more, pin-done}
 use Rattle.point.specs.Numbers.{flat}
-use Rattle.conic_cut.proofs.cutting.pin.Statement.{statement}
-use Rattle.conic_cut.proofs.cutting.pin.Tie as tie
+use Rattle.conic_cut.proofs.storing.pin.Statement.{statement}
+use Rattle.conic_cut.proofs.storing.pin.Tie as tie
 
 abbrev Inv-loop : tie.InvT-loop
 Inv-loop out₀ at p n i₀ next₀ out i next =

@@ -4,8 +4,8 @@ use native.Mathlib.Omega.{arith}
 use borrow.Author.Needs.{needs}
 use lib.ListN.{length-set}
 use Rattle.point.specs.Numbers.{flat}
-use Rattle.conic_cut.proofs.cutting.put.Statement.{statement}
-use Rattle.conic_cut.proofs.cutting.put.Tie as tie
+use Rattle.conic_cut.proofs.storing.put.Statement.{statement}
+use Rattle.conic_cut.proofs.storing.put.Tie as tie
 
 mul-out : tie.Need-mul-out
 mul-out c = search needs
