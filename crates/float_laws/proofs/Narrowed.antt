@@ -87,7 +87,7 @@ zero-is binary32 false = refl
 zero-is binary64 true = refl
 zero-is binary64 false = refl
 
-pub zeros-equal : (s t : Bool) → T (le (fin s 0 (pos 0)) (fin t 0 (pos 0)))
+zeros-equal : (s t : Bool) → T (le (fin s 0 (pos 0)) (fin t 0 (pos 0)))
 unfolding le
 zeros-equal true true = tt
 zeros-equal true false = tt
@@ -105,7 +105,7 @@ to-zero f a c C =
     subst (λ (z : Float). T (le z (fin true 0 (pos 0)))) (sym (neg-round f false a c))
     (le-neg (round f false a c) (fin false 0 (pos 0)) (from-zero f a c C))
 
-pub none : (f : Format) (s : Bool) (a c : ℕ) → 0 < c → a ≡ 0 → round f s a c ≡ fin s 0 (pos 0)
+none : (f : Format) (s : Bool) (a c : ℕ) → 0 < c → a ≡ 0 → round f s a c ≡ fin s 0 (pos 0)
 none f s a c C e = ap (λ (z : ℕ). round f s z c) e ∙ round-same f s 0 c 0 1 C (zero-lt-suc 0) (zero-mul 1 ∙ sym (zero-mul c)) ∙ zero-is f s
 
 pub round-order : (f : Format) (s t : Bool) (M p N q : ℕ) → 0 < p → 0 < q → LeF s M p t N q → T (le (round f s M p) (round f t N q))
