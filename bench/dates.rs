@@ -1,8 +1,9 @@
 // Dates beside the same in plain Rust, which tests and refuses as the library does; its cut is that of the judge of both axes.
 // Both sides of a row are timed in turns.
 use crate::*;
-use both::path_geometry::Conic;
 use both::Point;
+use both::path_geometry::Conic;
+use cuts::{ROOM, room};
 
 const LEVEL: u32 = NZ_MAX_LEVEL;
 const TABLE: usize = nz_table_room(LEVEL) as usize;
@@ -92,7 +93,7 @@ fn make(p: &[f32], weight: f32, table: &mut [u32]) -> u32 {
     unsafe { nz_date_table(p.as_ptr(), p.len() as u64, weight, LEVEL, table.as_mut_ptr(), table.len() as u64) }
 }
 
-fn making() {
+fn making(table: &mut Table) {
     let bridges = bridges();
     let (mut ours, mut theirs) = ([0; TABLE], [0; TABLE]);
     for (p, w) in &bridges {
@@ -108,8 +109,7 @@ fn making() {
             let _ = black_box(plain::make(black_box(p), *w, LEVEL, &mut theirs));
         }
     };
-    let [a, b] = medians(CONICS, library, rust);
-    beside("a date table of level 6", a, "plain Rust", b);
+    table.call("`nz_date_table`", &pair(CONICS, rust, library));
 }
 
 // A table, and times from its first x to its last.
@@ -122,7 +122,7 @@ fn strokes() -> ([u32; TABLE], [u32; STROKES]) {
     (table, std::array::from_fn(|k| table[0] + (span * (k * 617 % STROKES) / STROKES) as u32))
 }
 
-fn lookups() {
+fn lookups(of_times: &mut Table) {
     let (table, recorded) = strokes();
     let at = |r: u32| {
         let mut date = 0;
@@ -140,12 +140,11 @@ fn lookups() {
             let _ = black_box(rust(&table, *r));
         }
     };
-    let [a, b] = medians(STROKES, library, rust);
-    beside("a date by a table of level 6", a, "plain Rust", b);
+    of_times.call("`nz_date_at`", &pair(STROKES, rust, library));
 }
 
 // The times are put in place before each call, since dates are stored over them.
-fn many() {
+fn many(of_times: &mut Table) {
     let (table, recorded) = strokes();
     let (mut ours, mut theirs, mut bad) = (recorded, recorded, 0);
     let library = || {
@@ -156,13 +155,21 @@ fn many() {
         theirs = recorded;
         let _ = black_box(plain::all(black_box(&table), black_box(&mut theirs)));
     };
-    let [a, b] = medians(1, library, rust);
+    let rounds = pair(1, rust, library);
     assert!(ours == theirs && ours != recorded, "dates that differ are not timed");
-    beside("1,000 dates by one call, a table of level 6", a, "plain Rust", b);
+    of_times.call("`nz_date_all`, 1,000 times", &rounds);
 }
 
 pub fn all() {
-    making();
-    lookups();
-    many();
+    say(&format!(
+        "Dates by a table of level {LEVEL}, {} entries, beside plain Rust, {ROUNDS} batches a side, in turns: tables of {CONICS}
+        conics a batch, {STROKES} lookups a batch, or one call for {STROKES} times, which are put in place before each call, in the
+        time of both sides.",
+        TABLE / 2
+    ));
+    let mut table = Table::of_calls("plain Rust");
+    making(&mut table);
+    lookups(&mut table);
+    many(&mut table);
+    table.print();
 }

@@ -176,13 +176,13 @@ fn write_plainly(records: &[Record], journal: &mut [u8], write: impl Fn(&mut [u8
     at as u64
 }
 
-// Both times of so many bytes, as millions of bytes a second.
-fn speeds(name: &str, bytes: usize, [ours, theirs]: [f64; 2]) {
-    let speed = |ns: f64| 1000.0 * bytes as f64 / ns;
-    println!("{:<56} {:8.1} MB/s, plain Rust {:8.1} MB/s, {:.2} times", name, speed(ours), speed(theirs), ours / theirs);
+// A row: both sides' millions of bytes a second, and how many times as long the library takes.
+fn speeds(table: &mut Table, name: &str, bytes: usize, rounds: &Rounds) {
+    let speed = |side: usize| format!("{:.0}", 1000.0 * bytes as f64 / rounds.ns(side));
+    table.row(vec![name.to_string(), speed(1), speed(0), rounds.times(1, 0).to_string()]);
 }
 
-fn reading(records: &[Record], journal: &[u8]) {
+fn reading(table: &mut Table, records: &[Record], journal: &[u8]) {
     let (len, mut met) = (journal.len(), Vec::new());
     let keep = |kind: u32, words: &[u32; 7]| {
         let n = plain::words_of(kind).unwrap_or(0);
@@ -195,35 +195,43 @@ fn reading(records: &[Record], journal: &[u8]) {
     let library = || _ = black_box(read_all(black_box(journal), take));
     let calls = || _ = black_box(read_plainly(black_box(journal), plain::read, take));
     let inlined = || _ = black_box(read_plainly(black_box(journal), |j, at, w| plain::read_inlined(j, at, w), take));
-    speeds("a journal of 64 KiB read, a call a record", len, medians(1, library, calls));
-    speeds("the same, the plain Rust inlined", len, medians(1, library, inlined));
+    speeds(table, "`nz_journal_read`, a call a record", len, &pair(1, calls, library));
+    speeds(table, "the same, the plain Rust inlined", len, &pair(1, inlined, library));
 }
 
-fn writing(records: &[Record], journal: &[u8]) {
+fn writing(table: &mut Table, records: &[Record], journal: &[u8]) {
     let len = journal.len();
     let (mut ours, mut theirs) = (vec![0; len], vec![0; len]);
     assert!(write_all(records, &mut ours) == len as u64 && write_plainly(records, &mut theirs, plain::write) == len as u64);
     assert!(ours == journal && theirs == journal, "a journal that is written otherwise is not timed");
     let mut library = || _ = black_box(write_all(black_box(records), black_box(&mut ours)));
     let calls = || _ = black_box(write_plainly(black_box(records), black_box(&mut theirs), plain::write));
-    let called = medians(1, &mut library, calls);
+    let called = pair(1, calls, &mut library);
     let inlined = || _ = black_box(write_plainly(black_box(records), black_box(&mut theirs), |j, at, k, w| plain::write_inlined(j, at, k, w)));
-    speeds("a journal of 64 KiB written, a call a record", len, called);
-    speeds("the same, the plain Rust inlined", len, medians(1, library, inlined));
+    speeds(table, "`nz_journal_write`, a call a record", len, &called);
+    speeds(table, "the same, the plain Rust inlined", len, &pair(1, inlined, library));
 }
 
-fn ending(journal: &[u8]) {
+fn ending(table: &mut Table, journal: &[u8]) {
     let (len, mut end) = (journal.len(), 0);
     let answer = unsafe { nz_journal_end(journal.as_ptr(), len as u64, &mut end) };
     assert!((answer, end) == (NZ_OK, len as u64) && plain::end(journal) == Ok(len), "an end that differs is not timed");
     let library = || _ = black_box(unsafe { nz_journal_end(black_box(journal).as_ptr(), len as u64, &mut end) });
     let rust = || _ = black_box(plain::end(black_box(journal)));
-    speeds("the end of a journal of 64 KiB, by one call", len, medians(1, library, rust));
+    speeds(table, "`nz_journal_end`, by one call", len, &pair(1, rust, library));
 }
 
 pub fn all() {
     let (records, journal) = records();
-    reading(&records, &journal);
-    writing(&records, &journal);
-    ending(&journal);
+    say(&format!(
+        "A journal of {} records of all kinds in no order, {} bytes, beside plain Rust, {ROUNDS} batches a side, in turns, a batch
+        being all of it: millions of bytes a second, and how many times as long the library takes.",
+        records.len(),
+        journal.len()
+    ));
+    let mut table = Table::new(&["call", "library, MB/s", "plain Rust, MB/s", "times"]);
+    reading(&mut table, &records, &journal);
+    writing(&mut table, &records, &journal);
+    ending(&mut table, &journal);
+    table.print();
 }

@@ -1,6 +1,7 @@
 // The time of one square root by its input: each of 300,000 is called alone, 64 times in a batch, and the best of nine batches
 // counts: three rounds over all inputs, so that what else the machine does for a while is not taken for an input's own. The loop,
 // the call through a pointer and the reading of the clock are in it.
+use crate::table::{Table, ns, say};
 use crate::{nz_sqrt_f32, nz_sqrt_f64};
 use std::hint::black_box;
 use std::time::Instant;
@@ -46,17 +47,14 @@ fn best<A: Copy, B>(call: unsafe extern "C" fn(A) -> B, x: A) -> f64 {
     least
 }
 
-fn spread(name: &str, inputs: Vec<u64>, time: impl Fn(u64) -> f64) {
+fn spread(table: &mut Table, name: &str, inputs: Vec<u64>, time: impl Fn(u64) -> f64) {
     let mut times: Vec<(f64, u64)> = inputs.iter().map(|b| (f64::INFINITY, *b)).collect();
     for _ in 0..3 {
         times.iter_mut().for_each(|(least, b)| *least = least.min(time(*b)));
     }
     times.sort_by(|a, b| a.partial_cmp(b).unwrap());
-    let at = |part: f64| times[((INPUTS - 1) as f64 * part) as usize].0;
-    let (slowest, bits) = times[INPUTS - 1];
-    print!("{:<56} {:8.1} ns the fastest, ", format!("{name}, each of {INPUTS} inputs alone"), at(0.0));
-    print!("{:.1} ns the middle, {:.1} ns or less in 99.9 of 100, ", at(0.5), at(0.999));
-    println!("{slowest:.1} ns the slowest, at the bits {bits:x}");
+    let at = |part: f64| ns(times[((INPUTS - 1) as f64 * part) as usize].0);
+    table.row(vec![name.to_string(), at(0.0), at(0.5), at(0.999), at(1.0), format!("{:x}", times[INPUTS - 1].1)]);
 }
 
 pub fn all() {
@@ -64,6 +62,9 @@ pub fn all() {
     let mut inputs = |digits, infinity, of| (0..INPUTS).map(|k| pattern(k, digits, infinity, of, &mut next)).collect();
     let singles = inputs(23, 0x7f80_0000, |x| (x as f32).to_bits() as u64);
     let doubles = inputs(52, 0x7ff0 << 48, f64::to_bits);
-    spread("sqrt_f32", singles, |b| best(black_box(nz_sqrt_f32), f32::from_bits(b as u32)));
-    spread("sqrt_f64", doubles, |b| best(black_box(nz_sqrt_f64), f64::from_bits(b)));
+    say(&format!("Roots by their inputs: each of {INPUTS} alone, {CALLS} times in a batch, the best of nine batches."));
+    let mut table = Table::new(&["call", "fastest, ns", "middle, ns", "99.9 of 100, ns or less", "slowest, ns", "its bits"]);
+    spread(&mut table, "`sqrt_f32`", singles, |b| best(black_box(nz_sqrt_f32), f32::from_bits(b as u32)));
+    spread(&mut table, "`sqrt_f64`", doubles, |b| best(black_box(nz_sqrt_f64), f64::from_bits(b)));
+    table.print();
 }
