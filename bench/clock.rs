@@ -6,6 +6,7 @@ mod dates;
 mod ground;
 mod inputs;
 mod journal;
+mod levels;
 mod matrices;
 mod roots;
 mod table;
@@ -18,6 +19,7 @@ include!("../include/nyerdzumak.rs");
 
 fn main() {
     cuts::all();
+    levels::all();
     matrices::all();
     ground::all();
     roots::all();
