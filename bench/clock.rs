@@ -19,7 +19,6 @@ include!("../include/nyerdzumak.rs");
 
 fn main() {
     cuts::all();
-    levels::all();
     matrices::all();
     ground::all();
     roots::all();

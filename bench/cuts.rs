@@ -1,14 +1,14 @@
 // Cuts of all kinds of conics at level 4 and at level 6 by the three rules beside the original, with the buffer as the last call
-// left it and cleared before each call.
+// left it and cleared before each call; and plain ones at all levels.
 use crate::*;
 use original::Point;
 use original::path_geometry::Conic;
 
 // One of the library's cuts, as the C face has it.
-pub type Cut = unsafe extern "C" fn(*const f32, u64, f32, u32, *mut f32, u64) -> u32;
+type Cut = unsafe extern "C" fn(*const f32, u64, f32, u32, *mut f32, u64) -> u32;
 
 // The product rule, which is the original's, the exact rule, and both axes.
-pub const RULES: [Cut; 3] = [nz_conic_chop_into_quads_pow2, nz_cut_in_order, nz_cut_in_order_both];
+const RULES: [Cut; 3] = [nz_conic_chop_into_quads_pow2, nz_cut_in_order, nz_cut_in_order_both];
 
 pub const ROOM: usize = nz_cut_room(NZ_MAX_LEVEL) as usize;
 
@@ -45,7 +45,7 @@ fn conic((p, w): &([f32; 6], f32)) -> Conic {
 }
 
 // A batch of the original's cuts, and one of the library's by a rule.
-pub fn theirs(inputs: &Inputs, level: u32, cleared: bool) -> Side<'_> {
+fn theirs(inputs: &Inputs, level: u32, cleared: bool) -> Side<'_> {
     let conics: Vec<Conic> = inputs.iter().map(conic).collect();
     let mut buffer = Buffer::new(Point::zero());
     Box::new(move || {
@@ -59,7 +59,7 @@ pub fn theirs(inputs: &Inputs, level: u32, cleared: bool) -> Side<'_> {
     })
 }
 
-pub fn ours(cut: Cut, inputs: &Inputs, level: u32, cleared: bool) -> Side<'_> {
+fn ours(cut: Cut, inputs: &Inputs, level: u32, cleared: bool) -> Side<'_> {
     let mut buffer = Buffer::new(0.0f32);
     Box::new(move || {
         let out = buffer.next(room(level));
@@ -81,7 +81,7 @@ fn answer(cut: Cut, (p, w): &([f32; 6], f32), level: u32) -> Vec<f32> {
 
 // The product rule gives what the original gives, bit for bit but that any NaN is a NaN, and no rule refuses: so no row is of two
 // different things.
-pub fn judge(inputs: &Inputs, level: u32) {
+fn judge(inputs: &Inputs, level: u32) {
     for input in inputs {
         let mut points = vec![Point::zero(); room(level) / 2];
         conic(input).chop_into_quads_pow2(level as u8, &mut points);
@@ -92,37 +92,30 @@ pub fn judge(inputs: &Inputs, level: u32) {
     }
 }
 
-// In each round the original and the three rules, and the same with the buffer cleared.
-fn timed(kind: Kind, level: u32) -> Rounds {
-    let inputs = conics(kind);
-    judge(&inputs, level);
-    let mut sides = Vec::new();
-    for cleared in [false, true] {
-        sides.push(theirs(&inputs, level, cleared));
-        sides.extend(RULES.map(|cut| ours(cut, &inputs, level, cleared)));
-    }
-    turns(CONICS, sides)
+// The original and the three rules.
+pub fn sides(inputs: &Inputs, level: u32, cleared: bool) -> Vec<Side<'_>> {
+    judge(inputs, level);
+    let rules = RULES.map(|cut| ours(cut, inputs, level, cleared));
+    [theirs(inputs, level, cleared)].into_iter().chain(rules).collect()
 }
 
-// The first sides of `timed` with the buffer not cleared, and with it cleared.
+// The first sides of a row with the buffer not cleared, and with it cleared.
 const KEPT: usize = 0;
 const CLEARED: usize = 4;
 
-pub fn all() {
+// Each row with its kind's name and its level.
+fn print<'a>(rows: impl Iterator<Item = (&'a str, u32, &'a Rounds)>) {
     let [conics, level, cleared] = ["conics", "level", "cleared"];
     let mut ratios = Table::new(&[conics, level, "product rule", cleared, "exact rule", cleared, "both axes", cleared]);
     let mut times = Table::new(&[conics, level, "Rust", "product", "exact", "both", "cleared: Rust", "product", "exact", "both"]);
-    for level in [4, 6] {
-        for (name, kind) in KINDS {
-            let rounds = timed(kind, level);
-            let head = [name.to_string(), level.to_string()];
-            let cells = |rule: usize| {
-                let cleared = rounds.times(CLEARED + rule, CLEARED).middle;
-                [rounds.times(KEPT + rule, KEPT).to_string(), format!("{cleared:.2}")]
-            };
-            ratios.row(head.iter().cloned().chain((1..4).flat_map(cells)).collect());
-            times.row(head.iter().cloned().chain((0..8).map(|side| ns(rounds.ns(side)))).collect());
-        }
+    for (name, level, rounds) in rows {
+        let head = [name.to_string(), level.to_string()];
+        let cells = |rule: usize| {
+            let cleared = rounds.times(CLEARED + rule, CLEARED).middle;
+            [rounds.times(KEPT + rule, KEPT).to_string(), format!("{cleared:.2}")]
+        };
+        ratios.row(head.iter().cloned().chain((1..4).flat_map(cells)).collect());
+        times.row(head.iter().cloned().chain((0..8).map(|side| ns(rounds.ns(side)))).collect());
     }
     say(&format!(
         "Cuts, times the Rust by its own rule on the same conics: {CONICS} conics a batch, {ROUNDS} batches a side, all sides of a row
@@ -134,4 +127,16 @@ pub fn all() {
     say(LEGEND);
     say("The same cuts in nanoseconds a call, the middle of the batches; the clearing is in the time.");
     times.print();
+}
+
+// The levels of plain conics are timed as one row more, so that the same slow whiles meet them.
+pub fn all() {
+    let inputs = KINDS.map(|(_, kind)| conics(kind));
+    let heads: Vec<(u32, usize)> = [4, 6].into_iter().flat_map(|level| (0..KINDS.len()).map(move |k| (level, k))).collect();
+    let row = |&(level, k): &(u32, usize)| [false, true].into_iter().flat_map(|cleared| sides(&inputs[k], level, cleared)).collect();
+    let plain = conics(Kind::Plain);
+    let rows = heads.iter().map(row).chain([levels::sides(&plain)]).collect();
+    let rounds = turns(CONICS, rows);
+    print(heads.iter().zip(&rounds).map(|(&(level, k), rounds)| (KINDS[k].0, level, rounds)));
+    levels::print(&rounds[heads.len()]);
 }

@@ -1,8 +1,7 @@
 // What a level, a point and a chop of a cut cost, and how far a cut's time is told from that.
 use crate::*;
-use cuts::{RULES, judge, ours, room, theirs};
+use cuts::room;
 
-const LEVELS: usize = NZ_MAX_LEVEL as usize + 1;
 // The sides of a level: the original and the three rules.
 const SIDES: usize = 4;
 
@@ -11,22 +10,15 @@ fn side(level: usize, k: usize) -> usize {
 }
 
 // All levels are in one round, so that differences of levels are formed within a round too.
-fn timed() -> Rounds {
-    let inputs = conics(Kind::Plain);
-    let mut sides = Vec::new();
-    for level in 0..LEVELS as u32 {
-        judge(&inputs, level);
-        sides.push(theirs(&inputs, level, false));
-        sides.extend(RULES.map(|cut| ours(cut, &inputs, level, false)));
-    }
-    turns(CONICS, sides)
+pub fn sides(inputs: &Inputs) -> Vec<Side<'_>> {
+    (0..=NZ_MAX_LEVEL).flat_map(|level| cuts::sides(inputs, level, false)).collect()
 }
 
 fn by_level(rounds: &Rounds) {
     let head = ["level", "points", "Rust, ns", "product, ns", "times the Rust"];
     let a_point = ["a point: Rust, ns", "product", "exact", "both axes"];
     let mut table = Table::new(&[&head[..], &a_point].concat());
-    for level in 0..LEVELS {
+    for level in 0..=NZ_MAX_LEVEL as usize {
         let points = room(level as u32) / 2;
         let mut row = vec![level.to_string(), points.to_string()];
         row.extend([0, 1].map(|k| ns(rounds.ns(side(level, k)))));
@@ -71,8 +63,7 @@ fn account(rounds: &Rounds) {
     table.print();
 }
 
-pub fn all() {
-    let rounds = timed();
-    by_level(&rounds);
-    account(&rounds);
+pub fn print(rounds: &Rounds) {
+    by_level(rounds);
+    account(rounds);
 }

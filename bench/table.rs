@@ -4,6 +4,8 @@ use std::hint::black_box;
 use std::time::Instant;
 
 pub const ROUNDS: usize = 401;
+// In how many parts the rounds of a row are timed where there are several rows.
+const PARTS: usize = 8;
 
 pub type Side<'a> = Box<dyn FnMut() + 'a>;
 
@@ -26,19 +28,24 @@ fn deeper(frames: usize, round: &mut dyn FnMut()) {
     black_box(&mut frame);
 }
 
-// A batch of every side in each round, so that a slow while of the machine meets all of them. Some calls take longer where the stack
-// lies badly beside other memory, so it lies elsewhere in each round; the deepest is the first, so that no later one is new memory.
-pub fn turns(calls: usize, mut sides: Vec<Side>) -> Rounds {
-    let mut rounds = Vec::new();
-    for frames in (0..ROUNDS).rev() {
-        deeper(frames, &mut || rounds.push(sides.iter_mut().map(|side| time(calls, side)).collect()));
+// A batch of every side of a row in each round, so that a slow while of the machine meets all of them, and the rounds of a row in
+// parts, so that it meets all rows. Some calls take longer where the stack lies badly beside other memory, so it lies elsewhere in
+// each round; a part begins with the deepest, so that none is slow for memory that is new.
+pub fn turns(calls: usize, mut rows: Vec<Vec<Side>>) -> Vec<Rounds> {
+    let mut rounds: Vec<Rounds> = rows.iter().map(|_| Rounds(Vec::new())).collect();
+    for part in 0..PARTS {
+        for (sides, rounds) in rows.iter_mut().zip(&mut rounds) {
+            for frames in (part..ROUNDS).step_by(PARTS).rev() {
+                deeper(frames, &mut || rounds.0.push(sides.iter_mut().map(|side| time(calls, side)).collect()));
+            }
+        }
     }
-    Rounds(rounds)
+    rounds
 }
 
-// The same of two: side 0 is the Rust, side 1 the library.
+// One row of two sides: side 0 is the Rust, side 1 the library.
 pub fn pair<'a>(calls: usize, theirs: impl FnMut() + 'a, ours: impl FnMut() + 'a) -> Rounds {
-    turns(calls, vec![Box::new(theirs), Box::new(ours)])
+    turns(calls, vec![vec![Box::new(theirs), Box::new(ours)]]).remove(0)
 }
 
 // The middle of a figure over the rounds, and what 5 and 95 of 100 rounds are not above.
