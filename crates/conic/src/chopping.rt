@@ -131,30 +131,6 @@ pub fn mended(c: Conic, l: Lines) -> Lines
     }
 }
 
-// c itself, put together number by number. What is handed on by value stands in memory: read back in other pieces than it was
-// stored in, it is waited for.
-pub fn put_together(c: Conic) -> Conic
-    ensures { λ r. ⌜ r ≡ c ⌝ }
-{
-    let rule = c.rule;
-    Conic {
-        p0: Point {
-            x: c.p0.x,
-            y: c.p0.y,
-        },
-        p1: Point {
-            x: c.p1.x,
-            y: c.p1.y,
-        },
-        p2: Point {
-            x: c.p2.x,
-            y: c.p2.y,
-        },
-        weight: c.weight,
-        rule,
-    }
-}
-
 // The halves of c that these lines make, number by number: a point that is copied whole is slower.
 pub fn halves(c: Conic, l: Lines, weight: f32) -> Halves
     ensures { λ r. ⌜ r ≡ halvesAt weight c l ⌝ }

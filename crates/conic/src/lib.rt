@@ -11,11 +11,19 @@ ghost use Rattle.conic.specs.Source.{conicOf, shortSource, Taken};
 use depth::Depth;
 use point::Point;
 
-pub mod chopping;
+mod chopping;
 pub mod depth;
 mod leveling;
 mod mending;
 mod ruling;
+
+// A chop that needs no correction, in its parts, for a cut to ask of each conic what it needs.
+pub use chopping::Line;
+pub use chopping::Lines;
+pub use chopping::halves as halves_of;
+pub use chopping::is_settled;
+pub use chopping::is_whole;
+pub use chopping::plain_lines;
 
 // A conic from p0 to p2, bent towards p1. All that is cut from it goes by its rule.
 pub struct Conic {

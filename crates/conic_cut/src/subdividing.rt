@@ -13,7 +13,6 @@ use crate::storing;
 use conic::Conic;
 use conic::Halves;
 use conic::Rule;
-use conic::chopping;
 use conic::depth::Depth;
 use point::Point;
 
@@ -146,12 +145,12 @@ fn put_last(out: &mut [f32], at: usize, rungs: &[f32; RUNGS], h: Halves) -> usiz
     let f = h.first;
     let g = h.second;
     let d = rung(rungs, 1);
-    let l = chopping::plain_lines(f, d.scale);
-    let k = chopping::plain_lines(g, d.scale);
-    let whole = chopping::is_whole(l) & chopping::is_whole(k);
-    if whole & chopping::is_settled(f, l) & chopping::is_settled(g, k) {
-        let next = storing::put_halves(out, at, chopping::halves(f, l, d.weight));
-        return storing::put_halves(out, next, chopping::halves(g, k, d.weight));
+    let l = conic::plain_lines(f, d.scale);
+    let k = conic::plain_lines(g, d.scale);
+    let whole = conic::is_whole(l) & conic::is_whole(k);
+    if whole & conic::is_settled(f, l) & conic::is_settled(g, k) {
+        let next = storing::put_halves(out, at, conic::halves_of(f, l, d.weight));
+        return storing::put_halves(out, next, conic::halves_of(g, k, d.weight));
     }
     let next = in_full(out, at, rungs, f, 1);
     in_full(out, next, rungs, g, 1)
@@ -164,20 +163,44 @@ fn subdivide(out: &mut [f32], at: usize, rungs: &[f32; RUNGS], c: Conic, level: 
     ensures { λ r. ⌜ (r ≡ at + 4 * 2 ^ level) × (now (out .exit) ≡ sets (now (out .entry)) at (flat (cutPoints chopByRule level c))) ⌝ }
 {
     let d = rung(rungs, level);
-    let l = chopping::plain_lines(c, d.scale);
-    if !chopping::is_whole(l) {
+    let l = conic::plain_lines(c, d.scale);
+    if !conic::is_whole(l) {
         return in_full(out, at, rungs, c, level);
     }
-    if !chopping::is_settled(c, l) {
+    if !conic::is_settled(c, l) {
         return in_full(out, at, rungs, c, level);
     }
-    let h = chopping::halves(c, l, d.weight);
+    let h = conic::halves_of(c, l, d.weight);
     let less = level - 1;
     if less == 1 {
         return put_last(out, at, rungs, h);
     }
     let next = subdivide(out, at, rungs, h.first, less);
     subdivide(out, next, rungs, h.second, less)
+}
+
+// c itself, put together number by number. What is handed on by value stands in memory: read back in other pieces than it was
+// stored in, it is waited for.
+fn put_together(c: Conic) -> Conic
+    ensures { λ r. ⌜ r ≡ c ⌝ }
+{
+    let rule = c.rule;
+    Conic {
+        p0: Point {
+            x: c.p0.x,
+            y: c.p0.y,
+        },
+        p1: Point {
+            x: c.p1.x,
+            y: c.p1.y,
+        },
+        p2: Point {
+            x: c.p2.x,
+            y: c.p2.y,
+        },
+        weight: c.weight,
+        rule,
+    }
 }
 
 // The same at any level.
@@ -193,5 +216,5 @@ pub fn cut(out: &mut [f32], at: usize, c: Conic, level: u32) -> usize
     if level == 1 {
         return in_full(out, at, &rungs, c, level);
     }
-    subdivide(out, at, &rungs, chopping::put_together(c), level)
+    subdivide(out, at, &rungs, put_together(c), level)
 }

@@ -7,10 +7,10 @@ use borrow.Author.Tests.{not-false}
 use borrow.Fn.Kinds.{In}
 use borrow.Fn.PlainCycle.{Measures, is, falls, and}
 use Rattle.conic.specs.Chop.{chopByRule}
-use Rattle.conic.proofs.chopping.halves.Reads as halves-reads
-use Rattle.conic.proofs.chopping.is_settled.Reads as is-settled-reads
-use Rattle.conic.proofs.chopping.is_whole.Reads as is-whole-reads
-use Rattle.conic.proofs.chopping.plain_lines.Reads as plain-lines-reads
+use Rattle.conic.proofs.halves_of.Reads as halves-reads
+use Rattle.conic.proofs.is_settled.Reads as is-settled-reads
+use Rattle.conic.proofs.is_whole.Reads as is-whole-reads
+use Rattle.conic.proofs.plain_lines.Reads as plain-lines-reads
 use Rattle.conic_cut.specs.Ladder.{Rungs}
 use Rattle.conic_cut.proofs.Ladder.{Halved, halved-plain}
 use Rattle.conic_cut.proofs.Stores.{pow-more, stored-joined, stored-more}
