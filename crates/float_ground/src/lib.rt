@@ -43,6 +43,10 @@ pub fn abs_f32(x: f32) -> f32
 pub fn widen(x: f32) -> f64
     ensures { λ r. ⌜ r ≡ x ⌝ }
 {
+    // the cast is one instruction, and keeps a normal number and an infinity
+    if (f32::from_bits(0x80_0000) <= x) | (x <= f32::from_bits(0x8080_0000)) {
+        return x as f64;
+    }
     pack::float64(pack::round_to(Width::W64, parts::take_apart32(x)))
 }
 
