@@ -4,7 +4,6 @@ use mathlib.Core.Bool.{Bool, true, false, not, cond, _&&_, true≢false}
 use Prim.Native.Nat.{ℕ, _+_, _*_, _≤_}
 use native.Mathlib.Omega.{arith}
 use lib.Dec.{T, eqb}
-use lib.IntN.{pos}
 use lib.Ieee.{Float, nan, inf, fin, binary32, hid, ones, top, eq, isNan, ofBits, toBits}
 use lib.Ieee.Bits.{nanBits-is, toBits-ofBits}
 use lib.Ieee.Scale.{finite}
@@ -13,8 +12,6 @@ use Rattle.float_laws.proofs.Kept.{kept-is-left, left-is-kept}
 use Rattle.float_laws.proofs.Sign.{infinite}
 use Rattle.float_ground.specs.declared.narrowing.Narrowed.{Narrowed}
 use Rattle.float_ground.specs.declared.narrowing.Narrowed.the-variants.{Exact, Rounded, ToInfinity}
-use Rattle.float_ground.specs.declared.parts.Parts.{Parts}
-use Rattle.float_ground.specs.Parts.{Is}
 use Rattle.float_ground.specs.Narrowed.{narrowedOf, valueOf, lossOf}
 use Rattle.float_ground.specs.Laws.{SameValue, ExactWhereKept, NothingLost, GivenIsExact, TinyNegative}
 use Rattle.float_ground.proofs.Converting.{plain}
@@ -52,17 +49,12 @@ unfolding kept isNan eq roundTo
 infinity-kept x true e = rw e
 infinity-kept x false e = rw e
 
-pub zero-kept : (x : Float) (s : Bool) → x ≡ fin s 0 (pos 0) → kept x ≡ true
-unfolding kept isNan eq roundTo
-zero-kept x true e = rw e
-zero-kept x false e = rw e
-
--- a number by the comparison
-pub number-kept : (x : Float) (n : Parts) {r : Float} (b : Bool) → Is x n → r ≡ narrowOf x → eq r x ≡ b → kept x ≡ b
+-- what is no NaN by the comparison
+pub number-kept : (x : Float) {r : Float} (b : Bool) → T (not (isNan x)) → r ≡ narrowOf x → eq r x ≡ b → kept x ≡ b
 unfolding kept isNan
-number-kept nan n b h e k = absurd h
-number-kept (inf s) n b h e k = absurd h
-number-kept (fin s m d) n b h e k = rw (← e) k
+number-kept nan b h e k = absurd h
+number-kept (inf s) b h e k = rw (← e) k
+number-kept (fin s m d) b h e k = rw (← e) k
 
 -- ---- which patterns are those of infinities
 

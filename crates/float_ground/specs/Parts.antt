@@ -2,12 +2,12 @@
 -- ground"). Definitions only.
 use mathlib.Core.Path.{_≡_}
 use mathlib.Core.Bool.{Bool, false, not, cond}
-use Prim.Native.Nat.{ℕ, _+_, _-_, _*_, _%_, _^_, _≤_, _<_}
+use Prim.Native.Nat.{ℕ, _+_, _-_, _*_, _/_, _%_, _^_, _≤_, _<_}
 use lib.Dec.{T}
 use lib.IntN.{pos}
-use lib.Ieee.{Float, nan, inf, fin, Format, binary32, binary64, prec, low, hid, ones, top, round, ofBits, nanBits}
+use lib.Ieee.{Float, nan, inf, fin, Format, binary32, binary64, prec, low, hid, ones, top, round, ofFields, ofBits, nanBits}
 use lib.Ieee.Exact.{HasValue}
-use Rattle.float_laws.specs.Narrow.{roundTo}
+use Rattle.float_laws.specs.Narrow.{roundTo, narrowOf}
 use Rattle.float_laws.specs.Root.{rootOf}
 use Rattle.float_ground.specs.declared.parts.Width.{Width}
 use Rattle.float_ground.specs.declared.parts.Width.the-variants.{W32, W64}
@@ -60,6 +60,11 @@ TakenApart f x (Number n) = Stands f n × Is x n
 pub record Packed (f : Format) (n : Parts) (r : ℕ) : Type 0 where
   pub most : r ≤ ones f * hid f
   pub is : (s : Bool) → ofBits f (cond s (top f) 0 + r) ≡ round f s (n .significand * 2 ^ n .exponent) (2 ^ 1128)
+
+-- r, put behind either sign, is the pattern of what t behind that sign is the pattern of, rounded once to an `f32`
+pub record NarrowedTo (t r : ℕ) : Type 0 where
+  pub most : r ≤ ones binary32 * hid binary32
+  pub is : (s : Bool) → ofBits binary32 (cond s (top binary32) 0 + r) ≡ narrowOf (ofFields binary64 s (t / hid binary64) (t % hid binary64))
 
 -- ---- a pattern, and what it is read as
 

@@ -1,12 +1,7 @@
 // Narrowing that says what it lost.
 ghost use mathlib.Core.Path.{_≡_};
-ghost use lib.Ieee.{binary64};
 ghost use Rattle.float_ground.specs.Narrowed.{narrowedOf, valueOf, lossOf};
-ghost use Rattle.float_ground.specs.Parts.{TakenApart};
 use super::pack;
-use super::parts;
-use super::parts::Apart;
-use super::parts::Parts;
 use super::parts::Width;
 
 // What narrowing answers, with the number.
@@ -43,36 +38,23 @@ impl Narrowed {
     }
 }
 
-// What x is narrowed to, where x is the number that n stands for.
-fn number(x: f64, n: Parts) -> Narrowed
-    requires { ⌜ TakenApart binary64 x (Apart.Number n) ⌝ }
-    ensures { λ r. ⌜ r ≡ narrowedOf x ⌝ }
-{
-    let rest = pack::pack(Width::W32, n);
-    let r = pack::float32(pack::signed(Width::W32, n.negative, rest));
-    if r as f64 == x {
-        return Narrowed::Exact(r);
-    }
-    if rest == 0x7f80_0000 {
-        Narrowed::ToInfinity(r) // x is finite: it is a number
-    } else {
-        Narrowed::Rounded(r)
-    }
-}
-
 // x rounded once to the nearest `f32`, a tie to the even one, and whether that is x: an infinity from halfway above
 // the largest `f32` up, a subnormal or a zero of x's sign below the normal range, NaN for NaN.
 pub fn narrow(x: f64) -> Narrowed
     ensures { λ r. ⌜ r ≡ narrowedOf x ⌝ }
 {
-    match parts::take_apart64(x) {
-        Apart::Nan => Narrowed::Exact(0.0 / 0.0),
-        Apart::Infinite(negative) => {
-            Narrowed::Exact(pack::float32(pack::infinite(Width::W32, negative)))
-        }
-        Apart::Zero(negative) => {
-            Narrowed::Exact(pack::float32(pack::signed(Width::W32, negative, 0)))
-        }
-        Apart::Number(n) => number(x, n),
+    if x != x {
+        return Narrowed::Exact(0.0 / 0.0);
+    }
+    let b = f64::to_bits(x);
+    let rest = pack::narrowed(b % 0x8000_0000_0000_0000);
+    let r = pack::float32(pack::signed(Width::W32, b >= 0x8000_0000_0000_0000, rest));
+    if r as f64 == x {
+        return Narrowed::Exact(r);
+    }
+    if rest == 0x7f80_0000 {
+        Narrowed::ToInfinity(r) // x is finite: an infinity is kept
+    } else {
+        Narrowed::Rounded(r)
     }
 }

@@ -4,7 +4,7 @@ ghost use mathlib.Core.Bool.{cond};
 ghost use Prim.Native.Nat.{_+_, _*_, _%_, _^_, _≤_, _<_};
 ghost use lib.Ieee.{binary32, binary64, hid, ones, top};
 ghost use lib.Ieee.Nearest.{closest};
-ghost use Rattle.float_ground.specs.Parts.{formatOf, Tidy, Packed, Plain, floatOf, TidyApart, RoundedTo};
+ghost use Rattle.float_ground.specs.Parts.{formatOf, Tidy, Packed, NarrowedTo, Plain, floatOf, TidyApart, RoundedTo};
 use super::parts::Apart;
 use super::parts::Parts;
 use super::parts::Width;
@@ -18,7 +18,7 @@ fn up_at_tie(q: u64) -> u64
 
 // m / 2^t, to the nearest whole number, a tie to the even one.
 fn round_shift(m: u64, t: u64) -> u64
-    requires { ⌜ m < 2 ^ 55 ⌝ ∗ ⌜ 1 ≤ t ⌝ ∗ ⌜ t ≤ 55 ⌝ }
+    requires { ⌜ m < 2 ^ 60 ⌝ ∗ ⌜ 1 ≤ t ⌝ ∗ ⌜ t ≤ 55 ⌝ }
     ensures { λ r. ⌜ r ≡ closest m (2 ^ t) ⌝ }
 {
     (m + ((1 << (t - 1)) - 1) + up_at_tie(m >> t)) >> t
@@ -46,6 +46,27 @@ pub fn pack(w: Width, n: Parts) -> u64
     }
     // a carry out of the digits goes into the field
     k * l.hidden + round_shift(n.significand, l.spare)
+}
+
+// An `f64`'s pattern t, without its sign, rounded once to that of an `f32`, as `pack` does it. Both fields lie
+// next to their digits, so a normal result is t without its last 29 digits, and with 896 less in the field.
+pub fn narrowed(t: u64) -> u64
+    requires { ⌜ t ≤ ones binary64 * hid binary64 ⌝ }
+    ensures { λ r. ⌜ NarrowedTo t r ⌝ }
+{
+    let field = t >> 52;
+    if field < 897 {
+        if field < 872 {
+            // less than half of the smallest value
+            return 0;
+        }
+        return round_shift(t % 0x10_0000_0000_0000 + 0x10_0000_0000_0000, 926 - field);
+    }
+    if field >= 1151 {
+        return 0x7f80_0000;
+    }
+    // a carry out of the digits goes into the field
+    round_shift(t - 0x3800_0000_0000_0000, 29)
 }
 
 // A float's pattern; nothing for a NaN, whose pattern is left open.

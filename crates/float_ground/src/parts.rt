@@ -1,7 +1,7 @@
 // A float taken apart: its sign, and a significand in normal form with its exponent.
 ghost use mathlib.Core.Path.{_≡_};
 ghost use Prim.Native.Nat.{_+_, _^_, _≤_, _<_};
-ghost use lib.Ieee.{binary32, binary64, hid, ones, ofFields};
+ghost use lib.Ieee.{binary32, hid, ones, ofFields};
 ghost use Rattle.float_ground.specs.Parts.{formatOf, layoutOf, Normal, TakenApart};
 
 // Which of the two formats is meant.
@@ -108,21 +108,5 @@ pub fn take_apart32(x: f32) -> Apart
         b >= 0x8000_0000,
         (b % 0x8000_0000) >> 23,
         b % 0x80_0000,
-    )
-}
-
-// x taken apart.
-pub fn take_apart64(x: f64) -> Apart
-    ensures { λ r. ⌜ TakenApart binary64 x r ⌝ }
-{
-    if x != x {
-        return Apart::Nan;
-    }
-    let b = f64::to_bits(x);
-    of_fields(
-        Width::W64,
-        b >= 0x8000_0000_0000_0000,
-        (b % 0x8000_0000_0000_0000) >> 52,
-        b % 0x10_0000_0000_0000,
     )
 }

@@ -39,14 +39,8 @@ float-to-float-result c =
 returns : tie.Need-returns
 returns c = refl
 
-take-apart32-requires : tie.Need-take-apart32-requires
-take-apart32-requires c κs = search needs
-
 round-to-requires : tie.Need-round-to-requires
 round-to-requires c κs = tidy-apart binary32 (c .before .before .args .x) (c .take-apart32 .result) (c .take-apart32 .ensures)
-
-float64-requires : tie.Need-float64-requires
-float64-requires c κs = search needs
 
 returns-2 : tie.Need-returns-2
 returns-2 c =
@@ -57,4 +51,4 @@ returns-2 c =
 pub widen-spec : {M : Type 1} → statement M
 widen-spec =
     tie.close
-    (tie.spec float-from-bits-if1 float-from-bits-if1-2 float-to-float-result returns take-apart32-requires round-to-requires float64-requires returns-2)
+    (tie.spec float-from-bits-if1 float-from-bits-if1-2 float-to-float-result returns (λ c κs. search needs) round-to-requires (λ c κs. search needs) returns-2)

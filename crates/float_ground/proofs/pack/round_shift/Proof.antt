@@ -1,4 +1,4 @@
--- `float_ground::pack::round_shift` meets its contract: the sum fits 56 bits, and `shift-closest` says what it is. Assumes nothing.
+-- `float_ground::pack::round_shift` meets its contract: the sum fits 61 bits, and `shift-closest` says what it is. Assumes nothing.
 use borrow.Author.Needs.{needs}
 use mathlib.Core.Path.{_≡_, subst}
 use Prim.Native.Nat.{ℕ, suc, _+_, _-_, _*_, _/_, _%_, _^_, _<_}
