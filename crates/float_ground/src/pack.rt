@@ -1,4 +1,4 @@
-// A float put together: the one packing that rounds.
+// A float put together. `round_shift` is all that rounds.
 ghost use mathlib.Core.Path.{_≡_};
 ghost use mathlib.Core.Bool.{cond};
 ghost use Prim.Native.Nat.{_+_, _*_, _%_, _^_, _≤_, _<_};
@@ -48,8 +48,9 @@ pub fn pack(w: Width, n: Parts) -> u64
     k * l.hidden + round_shift(n.significand, l.spare)
 }
 
-// An `f64`'s pattern t, without its sign, rounded once to that of an `f32`, as `pack` does it. Both fields lie
-// next to their digits, so a normal result is t without its last 29 digits, and with 896 less in the field.
+// An `f64`'s pattern t, without its sign, rounded once to that of an `f32`, to what `pack` would give. In both
+// formats the field stands right before the digits, so a normal result is t with 896 less in the field and 29
+// digits fewer.
 pub fn narrowed(t: u64) -> u64
     requires { ⌜ t ≤ ones binary64 * hid binary64 ⌝ }
     ensures { λ r. ⌜ NarrowedTo t r ⌝ }
