@@ -88,28 +88,29 @@ fields-high f s (suc x) t p n =
       add-comm t (hid f),
     ) (odd-sign (prec f) s (hid f + t) x (low f))
 
+-- m * 2 ^ j smallest values as a fraction of 2 ^ 1128
+pub shifted : (f : Format) (m j : ℕ) → m * 2 ^ j * 2 ^ 1128 ≡ m * 2 ^ (j + (1128 - low f)) * 2 ^ low f
+shifted f m j =
+    ap (λ (y : ℕ). m * 2 ^ j * 2 ^ y) (sym (whole f))
+    ∙ ap (λ (y : ℕ). m * 2 ^ j * y) (pow-add 2 (1128 - low f) (low f))
+    ∙ sym (mul-assoc (m * 2 ^ j) (2 ^ (1128 - low f)) (2 ^ low f))
+    ∙ ap (λ (y : ℕ). y * 2 ^ low f) (mul-assoc m (2 ^ j) (2 ^ (1128 - low f)) ∙ ap (λ (y : ℕ). m * y) (sym (pow-add 2 j (1128 - low f))))
+  where
+    whole : (f : Format) → 1128 - low f + low f ≡ 1128
+    whole binary32 = refl
+    whole binary64 = refl
+
 -- a value of m * 2 ^ j smallest ones, in normal form
 stands-by : (f : Format) (x : Float) (s : Bool) (m j : ℕ) (n : Parts) → HasValue x s (m * 2 ^ j) (2 ^ low f) → m < 2 ^ prec f →
     Normal s m (j + (1128 - low f)) n → Stands f n × Is x n
 stands-by f x s m j n v few N = (
   record { tidy = N .tidy; clear = N .clear (prec f) (few-digits f) few; least = omega (arith, N .least) },
-  rw (N .sign, N .value) (same-value x s (m * 2 ^ j) (2 ^ low f) (m * 2 ^ (j + (1128 - low f))) (2 ^ 1128) (pow-pos (low f)) shifted v),
+  rw (N .sign, N .value) (same-value x s (m * 2 ^ j) (2 ^ low f) (m * 2 ^ (j + (1128 - low f))) (2 ^ 1128) (pow-pos (low f)) (shifted f m j) v),
 )
   where
     few-digits : (f : Format) → prec f ≤ 53
     few-digits binary32 = lit≤ tt
     few-digits binary64 = lit≤ tt
-
-    whole : (f : Format) → 1128 - low f + low f ≡ 1128
-    whole binary32 = refl
-    whole binary64 = refl
-
-    shifted : m * 2 ^ j * 2 ^ 1128 ≡ m * 2 ^ (j + (1128 - low f)) * 2 ^ low f
-    shifted =
-        ap (λ (y : ℕ). m * 2 ^ j * 2 ^ y) (sym (whole f))
-        ∙ ap (λ (y : ℕ). m * 2 ^ j * y) (pow-add 2 (1128 - low f) (low f))
-        ∙ sym (mul-assoc (m * 2 ^ j) (2 ^ (1128 - low f)) (2 ^ low f))
-        ∙ ap (λ (y : ℕ). y * 2 ^ low f) (mul-assoc m (2 ^ j) (2 ^ (1128 - low f)) ∙ ap (λ (y : ℕ). m * y) (sym (pow-add 2 j (1128 - low f))))
 
 -- ---- what `of_fields` hands to `normal`, and what it answers
 

@@ -24,7 +24,7 @@ pub closest-le : (m u b : ℕ) → 0 < u → m < b * u → closest m u ≤ b
 closest-le m u b U h = le-trans (nearest-le (m / u) (compare (m % u * 2) u)) (div-lt-iff-lt-mul U .1 h)
 
 -- less than half of u
-pub none : (m t : ℕ) → m < 2 ^ t → closest m (2 ^ suc t) ≡ 0
+none : (m t : ℕ) → m < 2 ^ t → closest m (2 ^ suc t) ≡ 0
 none m t h =
     let two : 2 ^ suc t ≡ 2 * 2 ^ t = pow-succ' 2 t in
     let small : m < 2 ^ suc t = omega arith in

@@ -5,6 +5,7 @@ ghost use Prim.Native.Nat.{_+_, _*_, _%_, _^_, _≤_, _<_};
 ghost use lib.Ieee.{binary32, binary64, hid, ones, top};
 ghost use lib.Ieee.Nearest.{closest};
 ghost use Rattle.float_ground.specs.Parts.{formatOf, Tidy, Packed, NarrowedTo, Plain, floatOf, TidyApart, RoundedTo};
+use super::parts;
 use super::parts::Apart;
 use super::parts::Parts;
 use super::parts::Width;
@@ -48,6 +49,23 @@ pub fn pack(w: Width, n: Parts) -> u64
     k * l.hidden + round_shift(n.significand, l.spare)
 }
 
+// As `narrowed`, below the normal range: the number is brought to normal form by its leading zeros, and packed.
+// The smallest `f64` is 2^54 / 2^1128.
+fn small(t: u64) -> u64
+    requires { ⌜ t < 897 * hid binary64 ⌝ }
+    ensures { λ r. ⌜ NarrowedTo t r ⌝ }
+{
+    let field = t >> 52;
+    if field > 0 {
+        let m = t % 0x10_0000_0000_0000 + 0x10_0000_0000_0000;
+        return pack(Width::W32, parts::normal(false, m, field - 1, 54));
+    }
+    if t > 0 {
+        return pack(Width::W32, parts::normal(false, t, 0, 54));
+    }
+    0
+}
+
 // An `f64`'s pattern t, without its sign, rounded once to that of an `f32`, to what `pack` would give. In both
 // formats the field stands right before the digits, so a normal result is t with 896 less in the field and 29
 // digits fewer.
@@ -57,11 +75,7 @@ pub fn narrowed(t: u64) -> u64
 {
     let field = t >> 52;
     if field < 897 {
-        if field < 872 {
-            // less than half of the smallest value
-            return 0;
-        }
-        return round_shift(t % 0x10_0000_0000_0000 + 0x10_0000_0000_0000, 926 - field);
+        return small(t);
     }
     if field >= 1151 {
         return 0x7f80_0000;

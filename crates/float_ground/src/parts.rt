@@ -64,7 +64,7 @@ impl Width {
 
 // m * 2^j smallest values in normal form, the smallest being 2^lowest / 2^1128: m's leading zeros give the
 // shift.
-fn normal(negative: bool, m: u64, j: u64, lowest: u64) -> Parts
+pub fn normal(negative: bool, m: u64, j: u64, lowest: u64) -> Parts
     requires { ⌜ 0 < m ⌝ ∗ ⌜ m < 2 ^ 53 ⌝ ∗ ⌜ 54 ≤ lowest ⌝ ∗ ⌜ j + lowest ≤ 2100 ⌝ }
     ensures { λ r. ⌜ Normal negative m (j + lowest) r ⌝ }
 {

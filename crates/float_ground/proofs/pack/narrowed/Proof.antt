@@ -4,28 +4,18 @@ use mathlib.Core.Path.{sym, subst}
 use Prim.Native.Nat.{ℕ}
 use native.Mathlib.Omega.{arith}
 use Rattle.float_ground.specs.Parts.{NarrowedTo}
-use Rattle.float_ground.proofs.Narrower.{normal, subnormal, nothing, over}
+use Rattle.float_ground.proofs.Narrower.{normal, over}
 use Rattle.float_ground.proofs.pack.narrowed.Statement.{statement}
 use Rattle.float_ground.proofs.pack.narrowed.Tie as tie
 
-returns : tie.Need-returns
-returns c = nothing (c .before .before .args .t) (omega arith)
-
 returns-2 : tie.Need-returns-2
-returns-2 c =
-    let t = c .before .before .before .args .t in
-    subst (λ (r : ℕ). NarrowedTo t r) (sym (c .round-shift .ensures)) (subnormal t (omega arith) (omega arith))
+returns-2 c = over (c .before .before .args .t) (omega arith) (omega arith)
 
 returns-3 : tie.Need-returns-3
-returns-3 c = over (c .before .before .args .t) (omega arith) (omega arith)
-
-returns-4 : tie.Need-returns-4
-returns-4 c =
+returns-3 c =
     let t = c .before .before .before .args .t in
-    subst (λ (r : ℕ). NarrowedTo t r) (sym (c .round-shift2 .ensures)) (normal t (omega arith) (omega arith))
+    subst (λ (r : ℕ). NarrowedTo t r) (sym (c .round-shift .ensures)) (normal t (omega arith) (omega arith))
 
 pub narrowed-spec : {M : Type 1} → statement M
 narrowed-spec =
-    tie.close
-    (tie.spec returns (λ c. search needs) (λ c. search needs) (λ c κs. search needs) returns-2 returns-3 (λ c. search needs)
-    (λ c κs. search needs) returns-4)
+    tie.close (tie.spec (λ c κs. search needs) (λ c. c .small .ensures) returns-2 (λ c. search needs) (λ c κs. search needs) returns-3)
