@@ -34,7 +34,7 @@
 #include <stdbool.h>
 #include <stdint.h>
 
-#define NZ_VERSION "0.7.1"
+#define NZ_VERSION "0.7.2"
 
 /* the answers */
 #define NZ_OK 0u                  /* none below applies */

@@ -2,7 +2,7 @@
 // editions 2021 and 2024, from Rust 1.82 on. Link with `-L native=FOLDER -l static=nyerdzumak`. What each call does, and
 // what its caller owes it, stands in nyerdzumak.h. A lent slice is a pointer that is not null and its length in numbers, which
 // of a journal are bytes.
-pub const NZ_VERSION: &str = "0.7.1";
+pub const NZ_VERSION: &str = "0.7.2";
 
 pub const NZ_OK: u32 = 0;
 pub const NZ_LEVEL_TOO_HIGH: u32 = 1;
