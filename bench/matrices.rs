@@ -10,32 +10,61 @@ fn transform(m: &[f32; 6]) -> Transform {
     Transform::from_row(m[0], m[1], m[2], m[3], m[4], m[5])
 }
 
+// The same numbers at eight places, each of which begins elsewhere in a line of the cache. A batch takes one after the other: where
+// they lie has a small part in the time, and no figure is to hang on one place.
+struct Places<T> {
+    rooms: Vec<Vec<T>>,
+    last: usize,
+}
+
+impl<T: Copy> Places<T> {
+    const LINE: usize = 128;
+    const STEP: usize = 16 / size_of::<T>();
+
+    fn new(of: &[T]) -> Places<T> {
+        let room = vec![of[0]; of.len() + 2 * Self::LINE / size_of::<T>()];
+        let mut places = Places { rooms: vec![room; 8], last: 0 };
+        (0..8).for_each(|_| places.next(of.len()).copy_from_slice(of));
+        places
+    }
+
+    fn next(&mut self, len: usize) -> &mut [T] {
+        self.last = (self.last + 1) % self.rooms.len();
+        let room = &mut self.rooms[self.last];
+        let start = room.as_ptr().align_offset(Self::LINE) + self.last * Self::STEP;
+        &mut room[start..start + len]
+    }
+}
+
 // Mapping stores over what it reads, so the points are those of the last call, or they are put in place before each call.
 fn mapping(anew: bool) -> Rounds {
     let m = [0.5f32, 0.25, -0.125, 0.75, 3.0, -2.0];
     let t = transform(&m);
     let points: Vec<Point> = (0..POINTS).map(|k| Point::from_xy(k as f32, (POINTS - k) as f32)).collect();
     let numbers: Vec<f32> = points.iter().flat_map(|p| [p.x, p.y]).collect();
-    let map = |n: &mut Vec<f32>| unsafe { nz_transform_map_numbers(&m, black_box(n.as_mut_ptr()), n.len() as u64) };
-    let (mut theirs, mut ours) = (points.clone(), numbers.clone());
-    t.map_points(&mut theirs);
-    assert!(map(&mut ours) == NZ_OK, "a call that is refused is not timed");
-    let same = theirs.iter().flat_map(|p| [p.x, p.y]).zip(&ours).all(|(a, b)| a.to_bits() == b.to_bits());
+    let map = |n: &mut [f32]| unsafe { nz_transform_map_numbers(&m, black_box(n.as_mut_ptr()), n.len() as u64) };
+    let (mut mapped, mut answered) = (points.clone(), numbers.clone());
+    t.map_points(&mut mapped);
+    assert!(map(&mut answered) == NZ_OK, "a call that is refused is not timed");
+    let same = mapped.iter().flat_map(|p| [p.x, p.y]).zip(&answered).all(|(a, b)| a.to_bits() == b.to_bits());
     assert!(same, "points that differ are not timed");
+    let (mut theirs, mut ours) = (Places::new(&points), Places::new(&numbers));
     let rust = || {
+        let place = theirs.next(POINTS);
         for _ in 0..MAPS {
             if anew {
-                theirs.copy_from_slice(black_box(&points));
+                place.copy_from_slice(black_box(&points));
             }
-            t.map_points(black_box(&mut theirs));
+            t.map_points(black_box(&mut *place));
         }
     };
     let library = || {
+        let place = ours.next(2 * POINTS);
         for _ in 0..MAPS {
             if anew {
-                ours.copy_from_slice(black_box(&numbers));
+                place.copy_from_slice(black_box(&numbers));
             }
-            black_box(map(&mut ours));
+            black_box(map(place));
         }
     };
     pair(MAPS, rust, library)

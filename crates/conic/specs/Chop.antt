@@ -94,10 +94,8 @@ mendedLines c l = record { x = mendedLine X c (l .x); y = mendedLine Y c (l .y) 
 
 -- the same by a test for each axis
 abbrev pub mendedBy : Test → Test → Conic → Lines → Lines
-mendedBy t u c l = record {
-  x = mendedOf t (c .p0 .x) (c .p1 .x) (c .p2 .x) (l .x);
-  y = mendedOf u (c .p0 .y) (c .p1 .y) (c .p2 .y) (l .y);
-}
+mendedBy t u c l =
+    record { x = mendedOf t (c .p0 .x) (c .p1 .x) (c .p2 .x) (l .x); y = mendedOf u (c .p0 .y) (c .p1 .y) (c .p2 .y) (l .y) }
 
 -- each line that the rule puts in order is settled, so that both are left as they are (proofs/Whole)
 abbrev pub settledLine : Axis → Conic → Line → Bool
