@@ -31,11 +31,11 @@ pub const KINDS: [(&str, Kind); 10] = [
 ];
 
 pub const LEGEND: &str = "
-    Plain: numbers below 2^25 that rise along both axes, weights from 0.25 to 1.25. The others are made from these. Falling: the
-    ends exchanged. In no order: each number drawn by itself, so that along an axis one middle of three lies between the ends.
-    Overflowing: finite coordinates whose products overflow, so that the cut is pinned. NaN weight: pinned by the Rust, and by all
-    rules but both axes. Subnormals: every coordinate is one. Corrected: weights below 0, so that the first chop is corrected along
-    both axes. Through f64: sums of ys overflow, so that every midpoint is computed again through f64.";
+    Plain: numbers below 2^25 that rise along both axes, weights from 0.25 to 1.25. Falling: the ends exchanged. In no order: each
+    number drawn by itself, so that along an axis one middle in three lies between the ends. Overflowing: finite coordinates whose
+    products overflow, so that the cut is pinned. NaN weight: of plain points. Subnormals: every coordinate is one. Corrected:
+    weights below 0, so that the first chop runs out of order along both axes. Through f64: ys whose sums overflow, so that midpoints
+    are computed again through f64.";
 
 // Bits, the same each time.
 pub fn bits() -> impl FnMut() -> u64 {

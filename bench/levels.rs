@@ -57,8 +57,8 @@ fn account(rounds: &Rounds) {
     say(
         "From these, each figure formed within a round, and the middle taken. A chop has its share of the stores and of the scan for
         points that are not finite, two points', and in the library a 32nd of the division and the root of one depth more. What is
-        left is neither in level 0 nor in such chops: in the library the divisions and roots are there, one of each for a depth,
-        which the Rust takes in each chop.",
+        left is neither in level 0 nor in such chops: in the library most divisions and roots are there, a division for each depth
+        and a root for each but the last, which the Rust takes in each chop.",
     );
     table.print();
 }

@@ -64,7 +64,7 @@ fn mapping(anew: bool) -> Rounds {
             if anew {
                 place.copy_from_slice(black_box(&numbers));
             }
-            black_box(map(place));
+            _ = map(place);
         }
     };
     pair(MAPS, rust, library)
@@ -77,11 +77,24 @@ fn matrices() -> Vec<[[f32; 6]; 2]> {
     (0..CONICS).map(|_| [matrix(), matrix()]).collect()
 }
 
+// The library gives what the original gives, bit for bit.
+fn judge(given: &[[[f32; 6]; 2]], pairs: &[[Transform; 2]]) {
+    let numbers = |t: Transform| [t.sx, t.ky, t.kx, t.sy, t.tx, t.ty].map(f32::to_bits);
+    for ([a, b], [s, t]) in given.iter().zip(pairs) {
+        let (mut product, mut inverse, mut rounded) = ([0.0f32; 6], [0.0f32; 6], false);
+        unsafe { nz_transform_pre_concat(a, b, &mut product, &mut rounded) };
+        assert!(unsafe { nz_transform_invert(a, &mut inverse, &mut rounded) } == NZ_OK, "an inverse that is refused is not timed");
+        let same = product.map(f32::to_bits) == numbers(s.pre_concat(*t)) && inverse.map(f32::to_bits) == numbers(s.invert().unwrap());
+        assert!(same, "matrices that differ are not timed");
+    }
+}
+
 // Each through a pointer of its own, so that neither side is inlined. The original has no flag.
 fn products(table: &mut Table) {
     let given = matrices();
     let pairs: Vec<[Transform; 2]> = given.iter().map(|[a, b]| [transform(a), transform(b)]).collect();
     assert!(pairs.iter().flatten().all(|t| t.has_skew() && t.invert().is_some()), "only what skews and has an inverse is timed");
+    judge(&given, &pairs);
     let (mut out, mut rounded) = ([0.0f32; 6], false);
     let concat: unsafe extern "C" fn(_, _, _, _) = black_box(nz_transform_pre_concat);
     let their_concat: fn(&Transform, Transform) -> Transform = black_box(Transform::pre_concat);

@@ -1,7 +1,7 @@
 -- A line that runs one way over a finite distance passes every test, once for both directions, and so no rule moves it along either
 -- axis. Assumes nothing.
-use mathlib.Core.Path.{_≡_, refl, sym, subst, _∙_}
-use mathlib.Core.Bool.{Bool, true, false, cond, _&&_, _||_}
+use mathlib.Core.Path.{_≡_, refl, sym, subst}
+use mathlib.Core.Bool.{Bool, true, _&&_}
 use lib.Dec.{T}
 use lib.Ieee.{Float, binary32, le}
 use lib.Ieee.Fits.{and-l, and-r}
@@ -15,15 +15,12 @@ use Rattle.conic.specs.declared.chopping.Lines.{Lines}
 use Rattle.conic.specs.declared.ruling.Test.{Test}
 use Rattle.conic.specs.declared.ruling.Test.the-variants.{Never, Product, Exact}
 use Rattle.conic.specs.Between.{passes, productTest}
-use Rattle.conic.specs.Chop.{along, on, wideLine, plainLines, linesAt, halvesAt, settledLine, settledLines, mendedLine, mendedLines, chopAt}
+use Rattle.conic.specs.Chop.{along, wideLine, plainLines, linesAt, settledLine, settledLines, mendedLine, chopAt}
 use Rattle.conic.specs.Laws.{Asks, PassesEveryTest, StaysByEveryRule, PlainIsTheChop}
 use Rattle.conic.specs.Mend.{inOrder, mendedOf, risesOf, runsOf, settledOf, settledBy}
 use Rattle.conic.specs.Rule.{Axis, X, Y, testAlong}
-use Rattle.conic.proofs.Ways.{Way, up-way, down-way}
+use Rattle.conic.proofs.Ways.{Way, up-way, down-way, true-of}
 use Rattle.conic.proofs.Whole.{lines-whole, stay}
-
-true-of : (b : Bool) → T b → b ≡ true
-true-of true t = refl
 
 holds : (b : Bool) → b ≡ true → T b
 holds b e = subst T (sym e) tt

@@ -57,7 +57,7 @@ down-way = record {
 abbrev pub PutsInOrder : Axis → Conic → Type 0
 PutsInOrder k c = testAlong k (c .rule) ≡ By.Exact
 
-true-of : (b : Bool) → T b → b ≡ true
+pub true-of : (b : Bool) → T b → b ≡ true
 true-of true t = refl
 
 mended-on : (k : Axis) (c : Conic) (l : Lines) → on k (mendedLines c l) ≡ mendedLine k c (on k l)

@@ -97,7 +97,7 @@ abbrev pub mendedBy : Test → Test → Conic → Lines → Lines
 mendedBy t u c l =
     record { x = mendedOf t (c .p0 .x) (c .p1 .x) (c .p2 .x) (l .x); y = mendedOf u (c .p0 .y) (c .p1 .y) (c .p2 .y) (l .y) }
 
--- each line that the rule puts in order is settled, so that both are left as they are (proofs/Whole)
+-- a line is settled, if its rule puts it in order; and both are, so that no rule moves them (`StaysByEveryRule` of Laws)
 abbrev pub settledLine : Axis → Conic → Line → Bool
 settledLine k c l = settledBy (testAlong k (c .rule)) (along k (c .p0)) (along k (c .p2)) l
 

@@ -1,4 +1,4 @@
--- What holds of the definitions, for every rule and along both axes; proofs/OneWay shows it (docs/RULES.md, "Conics").
+-- What holds of the definitions, for every rule and along both axes (docs/RULES.md, "Conics"). Statements only; proofs/OneWay proves them.
 use mathlib.Core.Path.{_≡_}
 use mathlib.Core.Bool.{true}
 use lib.Ieee.{Float}

@@ -51,7 +51,7 @@ runsOf a c l = risesOf a (l .left) (l .middle) (l .right) c || risesOf c (l .rig
 unfoldable pub settledOf : Float → Float → Line → Bool
 settledOf a c l = runsOf a c l && finite (c ⊖ a)
 
--- where there is a test to pass
+-- settled, or no test asks it
 abbrev pub settledBy : Test → Float → Float → Line → Bool
 settledBy Never a c l = true
 settledBy Product a c l = settledOf a c l

@@ -17,7 +17,7 @@ mod leveling;
 mod mending;
 mod ruling;
 
-// A chop that needs no correction, in its parts, for a cut to ask of each conic what it needs.
+// The parts of a chop that needs no correction, which a cut asks for one by one. A single conic is halved by `chop_by_rule`.
 pub use chopping::Line;
 pub use chopping::Lines;
 pub use chopping::halves as halves_of;

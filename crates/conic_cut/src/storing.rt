@@ -1,4 +1,4 @@
-// Stores of points, two numbers a point. Each answers the next place, but `pin`.
+// Stores of points, two numbers a point. Carried over from `path_geometry.rs` of tiny-skia-path 0.12.0.
 ghost use mathlib.Core.Path.{_≡_};
 ghost use mathlib.Core.List.{[], _∷_};
 ghost use Prim.Native.Nat.{_+_, _*_, _≤_};

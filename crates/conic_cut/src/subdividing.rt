@@ -52,7 +52,7 @@ fn rung(rungs: &[f32; RUNGS], level: u32) -> Depth
 }
 
 // Stores all the points of the cut but the first from `at` on, and answers the next place. The conic comes in numbers: halves
-// that had to be corrected are put together from single numbers, and a conic by value would be waited for.
+// that were corrected are put together from single numbers, and read back as a conic by value they wait for these stores.
 fn subdivide_in_full(
     out: &mut [f32],
     at: usize,
@@ -63,18 +63,18 @@ fn subdivide_in_full(
     y1: f32,
     x2: f32,
     y2: f32,
-    own: f32,
+    weight: f32,
     rule: Rule,
     level: u32,
 ) -> usize
-    requires { ⌜ at + 4 * 2 ^ level ≤ length (now out) ⌝ ∗ ⌜ 1 ≤ level ⌝ ∗ ⌜ level ≤ deepest ⌝ ∗ ⌜ Rungs (now rungs) level own ⌝ }
+    requires { ⌜ at + 4 * 2 ^ level ≤ length (now out) ⌝ ∗ ⌜ 1 ≤ level ⌝ ∗ ⌜ level ≤ deepest ⌝ ∗ ⌜ Rungs (now rungs) level weight ⌝ }
     ensures { λ r. ⌜ (r ≡ at + 4 * 2 ^ level) × (now (out .exit) ≡ sets (now (out .entry)) at (flat (cutPoints chopByRule level
-        (conicFrom (pointFrom x0 y0) (pointFrom x1 y1) (pointFrom x2 y2) own rule)))) ⌝ }
+        (conicFrom (pointFrom x0 y0) (pointFrom x1 y1) (pointFrom x2 y2) weight rule)))) ⌝ }
 {
     let p0 = Point { x: x0, y: y0 };
     let p1 = Point { x: x1, y: y1 };
     let p2 = Point { x: x2, y: y2 };
-    let h = rung(rungs, level).chop(Conic::new(p0, p1, p2, own, rule));
+    let h = rung(rungs, level).chop(Conic::new(p0, p1, p2, weight, rule));
     let less = level - 1;
     if less == 0 {
         return storing::put_halves(out, at, h);
@@ -179,8 +179,8 @@ fn subdivide(out: &mut [f32], at: usize, rungs: &[f32; RUNGS], c: Conic, level: 
     subdivide(out, next, rungs, h.second, less)
 }
 
-// c itself, put together number by number. What is handed on by value stands in memory: read back in other pieces than it was
-// stored in, it is waited for.
+// c itself, put together number by number. What is handed on by value stands in memory, and a read that spans several stores
+// waits for them.
 fn put_together(c: Conic) -> Conic
     ensures { λ r. ⌜ r ≡ c ⌝ }
 {
@@ -203,7 +203,7 @@ fn put_together(c: Conic) -> Conic
     }
 }
 
-// The same at any level.
+// Stores all the points of the cut but the first from `at` on, at any level, and answers the next place.
 pub fn cut(out: &mut [f32], at: usize, c: Conic, level: u32) -> usize
     requires { ⌜ at + 4 * 2 ^ level ≤ length (now out) ⌝ ∗ ⌜ level ≤ deepest ⌝ }
     ensures { λ r. ⌜ (r ≡ at + 4 * 2 ^ level) × (now (out .exit) ≡ sets (now (out .entry)) at (flat (cutPoints chopByRule level c))) ⌝ }

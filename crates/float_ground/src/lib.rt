@@ -43,7 +43,7 @@ pub fn abs_f32(x: f32) -> f32
 pub fn widen(x: f32) -> f64
     ensures { λ r. ⌜ r ≡ x ⌝ }
 {
-    // the cast is one instruction, and keeps a normal number and an infinity
+    // by the cast, one instruction; a subnormal goes by its leading zeros, and a NaN may not be cast
     if (f32::from_bits(0x80_0000) <= x) | (x <= f32::from_bits(0x8080_0000)) {
         return x as f64;
     }

@@ -68,7 +68,7 @@ fn small(t: u64) -> u64
 
 // An `f64`'s pattern t, without its sign, rounded once to that of an `f32`, to what `pack` would give. In both
 // formats the field stands right before the digits, so a normal result is t with 896 less in the field and 29
-// digits fewer.
+// digits fewer. The field 897 is that of the smallest normal `f32`, and 1151 that of 2^128.
 pub fn narrowed(t: u64) -> u64
     requires { ⌜ t ≤ ones binary64 * hid binary64 ⌝ }
     ensures { λ r. ⌜ NarrowedTo t r ⌝ }

@@ -12,7 +12,7 @@ use lib.Ieee.Fits.{down-pos}
 use lib.Ieee.Positive.{den, den-pos}
 use lib.Ieee.Scale.{finite}
 use Rattle.float_laws.specs.Formula.{_⊖_, _⊗_, zero32}
-use Rattle.float_laws.proofs.Order.{LeF, zero-left, no-cond, le→, le-self, finite-between}
+use Rattle.float_laws.proofs.Order.{LeF, zero-left, no-cond, le→, finite-between}
 use Rattle.float_laws.proofs.Narrowed.{neg-round, zero-is, round-order}
 
 finite-neg : (x : Float) → finite (neg x) ≡ finite x

@@ -64,7 +64,7 @@ module _ (t : ℕ) where
   -- what the chop gave is cut further as the rule's own halves are
   halves-of : (h : lts.After-chop (calls t) (at-level t) in-full.Post) → let a = h .before .before .before .before .args in
       Halved (a .level - 1) (a .rungs .now)
-      (conicFrom (pointFrom (a .x0) (a .y0)) (pointFrom (a .x1) (a .y1)) (pointFrom (a .x2) (a .y2)) (a .own) (a .rule)) (h .chop .result)
+      (conicFrom (pointFrom (a .x0) (a .y0)) (pointFrom (a .x1) (a .y1)) (pointFrom (a .x2) (a .y2)) (a .weight) (a .rule)) (h .chop .result)
   halves-of h =
       let s = h .before .before .before .before in
       let a = s .args in

@@ -1,5 +1,5 @@
 -- `put_last` meets its contract: plain chops are stored as they are, and the others are cut in full. Assumes nothing.
-use mathlib.Core.Path.{_≡_, refl, sym, ap, _∙_}
+use mathlib.Core.Path.{_≡_, refl, sym, _∙_}
 use mathlib.Core.Bool.{Bool, true, false, _&&_, true≢false}
 use native.Mathlib.Omega.{arith}
 use borrow.Author.Needs.{needs}

@@ -1,5 +1,4 @@
 -- `float_ground::narrow` meets its contract: the pattern is that of the nearest value, and the tests tell the case. Assumes nothing.
-use borrow.Author.Needs.{needs}
 use mathlib.Core.Path.{_≡_, sym, ap, _∙_, subst}
 use mathlib.Core.Bool.{Bool, true, false, not, cond}
 use Prim.Native.Nat.{ℕ, _+_, _/_, _%_}
