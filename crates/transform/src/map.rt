@@ -9,16 +9,17 @@ impl Transform {
     pub fn map_point(self, p: Point) -> Point
         ensures { λ r. ⌜ r ≡ mapPoint self p ⌝ }
     {
+        // the four kinds of `transform.rs`; of a skew none of the others is, and it takes longest, so that it is asked for first
+        if self.has_skew() {
+            return skewed(self, p);
+        }
         if self.is_identity() {
             return p;
         }
         if self.is_translate() {
             return translated(self, p);
         }
-        if self.is_scale_translate() {
-            return scaled(self, p);
-        }
-        skewed(self, p)
+        scaled(self, p)
     }
 }
 
