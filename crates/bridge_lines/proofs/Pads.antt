@@ -1,13 +1,13 @@
 -- Laws on a pad's line: two words byte by byte, the words behind the first, and a number by its last digit. Assumes nothing.
 use Rattle.std.proofs.Common.{◌≡◌, ℕ, zero, suc, ◌+◌, ◌-◌, ◌*◌, ◌<◌, ◌≤◌, Bool, true, false, cond, ◌&&◌, eqb, ltb, leb, List, [], ◌∷◌, ◌++◌, length, get_or, take, drop, sym, refl, ap, ◌∙◌, true≢false, arith, take_all, drop-cons, take-suc, ltb-true, eq-eqb, ne_eqb, leb-true}
-use mathlib.Core.Bool.{and-false}
+use mathlib.Core.Bool.{and_false}
 use Rattle.bridge_lines.specs.Decimal.{all_digits, is_whole, size_after, size_of}
 use Rattle.bridge_lines.specs.Kinds.{is_of}
 use Rattle.bridge_lines.specs.Pad.{same}
 use Rattle.bridge_lines.specs.Words.{is_digit, before, words_of}
 use Rattle.bridge_lines.specs.declared.scan.Kind.TheVariants.{Blank, NoBlank}
 use Rattle.bridge_lines.proofs.Bytes.{rest}
-use Rattle.bridge_lines.proofs.Split.{Stands, start, other-words}
+use Rattle.bridge_lines.proofs.Split.{Stands, start, other_words}
 
 -- ---- two words
 
@@ -16,7 +16,7 @@ unfolding same
 other_length [] [] h = absurd (h refl)
 other_length [] (c ∷ m) h = refl
 other_length (b ∷ l) [] h = refl
-other_length (b ∷ l) (c ∷ m) h = rw (other_length l m (λ e. h (ap suc e))) (and-false (eqb b c))
+other_length (b ∷ l) (c ∷ m) h = rw (other_length l m (λ e. h (ap suc e))) (and_false (eqb b c))
 
 module _ (l m : List ℕ) (i : ℕ) (h : i < length l) (g : i < length m) where
   pub differ : (get_or l i 0 ≡ get_or m i 0 → ⊥) → same (drop i l) (drop i m) ≡ false
@@ -34,7 +34,7 @@ pub behind : (t : List ℕ) (i e : ℕ) → i ≡ 0 + length (before (is_of NoBl
 behind t i e h f =
     let s : Stands t i 0 = start t i h in
     rw (rest (is_of Blank) t i e f)
-    (sym (other-words (drop i t) s.0) ∙ ap (λ (ws : List (List ℕ)). drop 1 ws) s.1)
+    (sym (other_words (drop i t) s.0) ∙ ap (λ (ws : List (List ℕ)). drop 1 ws) s.1)
 
 -- ---- a number by its last digit
 
@@ -64,8 +64,8 @@ module _ (w : List ℕ) (e : is_whole w ≡ true) where
   digit : is_digit (get_or w (length w - 1) 0) ≡ true
   digit = digit_at w (length w - 1) (both (ltb 0 (length w)) (all_digits w) e).1 (omega (arith, some))
 
-  pub not-below : 48 ≤ get_or w (length w - 1) 0
-  not-below = leb-true 48 (get_or w (length w - 1) 0) (both (leb 48 (get_or w (length w - 1) 0)) (leb (get_or w (length w - 1) 0) 57) digit).0
+  pub not_below : 48 ≤ get_or w (length w - 1) 0
+  not_below = leb-true 48 (get_or w (length w - 1) 0) (both (leb 48 (get_or w (length w - 1) 0)) (leb (get_or w (length w - 1) 0) 57) digit).0
 
   last_by : (n : ℕ) → size_after n (get_or w (length w - 1) 0 ∷ []) ≡ 10 * n + (get_or w (length w - 1) 0 - 48)
   unfolding size_after

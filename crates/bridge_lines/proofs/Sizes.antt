@@ -35,8 +35,8 @@ limit_by true t = omega arith
 limit_by false true = omega arith
 limit_by false false = omega arith
 
-pub limit-below : (place : ℕ) → limit_of place < 1000000000
-limit-below place = limit_by (ltb place 7) (ltb place 8)
+pub limit_below : (place : ℕ) → limit_of place < 1000000000
+limit_below place = limit_by (ltb place 7) (ltb place 8)
 
 pub held : (m n : ℕ) (l : List ℕ) → min (size_after (min n m) l) m ≡ min (size_after n l) m
 held m n l = held_by (leb n m) m n l refl
@@ -51,7 +51,7 @@ pub ranged : (place : ℕ) (w : List ℕ) → in_range place w ≡ true → (siz
 ranged place w e =
     let b : (leb (size_of w) (limit_of place) ≡ true) × (leb (length (decimals w)) 6 ≡ true) =
     both_by (leb (size_of w) (limit_of place)) (leb (length (decimals w)) 6) e in (
-      lt_of_le_of_lt (leb-true (size_of w) (limit_of place) b.0) (limit-below place),
+      lt_of_le_of_lt (leb-true (size_of w) (limit_of place) b.0) (limit_below place),
       leb-true (length (decimals w)) 6 b.1,
     )
 

@@ -44,10 +44,10 @@ unfolding before words_after ahead
 this_word [] h = refl
 this_word (b ∷ l) h = rw (begins_by (is_blank b) b l refl h)
 
-pub other-words : (l : List ℕ) → length (before (is_of NoBlank) l) ≡ 0 → drop 1 (words_of l) ≡ words_of (from (is_of Blank) l)
+pub other_words : (l : List ℕ) → length (before (is_of NoBlank) l) ≡ 0 → drop 1 (words_of l) ≡ words_of (from (is_of Blank) l)
 unfolding from words_after ahead
-other-words [] h = refl
-other-words (b ∷ l) h = rw (begins_by (is_blank b) b l refl h)
+other_words [] h = refl
+other_words (b ∷ l) h = rw (begins_by (is_blank b) b l refl h)
 
 -- ---- at an index i of the line t, where n words are passed and none is cut
 
@@ -65,7 +65,7 @@ next t i n e j h f g =
     let a : drop e t ≡ from (is_of Blank) (drop i t) = rest (is_of Blank) t i e f in
     let b : drop j t ≡ from (is_of NoBlank) (drop e t) = rest (is_of NoBlank) t e j g in (
       rw b (sits (is_of NoBlank) (drop e t)),
-      rw b (skip (drop e t) ∙ rw a (sym (other-words (drop i t) h.0) ∙ rw h.1 (drop-drop 1 n (words_of t)))),
+      rw b (skip (drop e t) ∙ rw a (sym (other_words (drop i t) h.0) ∙ rw h.1 (drop-drop 1 n (words_of t)))),
     )
 
 pub word_at : (t : List ℕ) (i n e : ℕ) → Stands t i n → e ≡ i + length (before (is_of Blank) (drop i t)) →
@@ -80,20 +80,20 @@ word_at t i n e h f =
 abbrev Full : List (List ℕ) → Type 0
 Full ws = (k : ℕ) → k < length ws → 0 < length (get_or ws k [])
 
-full-ahead : (w : List ℕ) (ws : List (List ℕ)) → Full ws → Full (ahead w ws)
+full_ahead : (w : List ℕ) (ws : List (List ℕ)) → Full ws → Full (ahead w ws)
 unfolding ahead
-full-ahead [] ws h k g = h k g
-full-ahead (b ∷ w) ws h zero g = omega arith
-full-ahead (b ∷ w) ws h (suc k) g = h k (omega arith)
+full_ahead [] ws h k g = h k g
+full_ahead (b ∷ w) ws h zero g = omega arith
+full_ahead (b ∷ w) ws h (suc k) g = h k (omega arith)
 
 full_by : (t : Bool) (b : ℕ) (l w : List ℕ) → is_blank b ≡ t → ((v : List ℕ) → Full (words_after v l)) → Full (words_after w (b ∷ l))
 unfolding words_after
-full_by true b l w e h = rw e (full-ahead w (words_of l) (h []))
+full_by true b l w e h = rw e (full_ahead w (words_of l) (h []))
 full_by false b l w e h = rw e (h (w ++ b ∷ []))
 
 full : (l w : List ℕ) → Full (words_after w l)
 unfolding words_after
-full [] w = full-ahead w [] (λ k h. absurd (no k h))
+full [] w = full_ahead w [] (λ k h. absurd (no k h))
   where
     no : (k : ℕ) → k < 0 → ⊥
     no k h = omega arith

@@ -50,15 +50,15 @@ infixr 4 ◌&◌
 abbrev ◌&◌ : {A B : Type 0} → A → B → A × B
 a & b = (a, b)
 
-all-computed : AllComputed figures
+all_computed : AllComputed figures
 unfolding
     bits at corner root_of round_to roots_of discriminant_of divided_of two_roots collected q_of passes test_along
     chop_by_rule chop_at halves_at lines_at line_of wide_middle mended_of ordered_of nearer_of abs_of cut_points all_finite pinned written flat cut_answer
     of_bits to_bits fits add sub mul div lt le
-all-computed =
+all_computed =
     (tt & refl) & (tt & refl) & (tt & refl) & (tt & refl) & (tt & refl) & refl & refl & refl & refl & refl
     & refl & refl & refl & refl & refl & refl & refl & refl & refl
     & (refl & refl & refl) & (refl & refl & refl) & (refl & refl & refl) & (refl & refl & refl) & (refl & refl & refl) & refl & refl & refl & refl & tt
 
 pub all_hold : AllHold figures
-all_hold = hold figures all-computed
+all_hold = hold figures all_computed

@@ -17,9 +17,9 @@ use Rattle.conic.specs.Mend.{ordered_of, mended_of}
 use Rattle.conic.specs.Rule.{X, Y, test_along}
 use Rattle.conic.proofs.Whole.{stay}
 
-same-ordered : (s t : Test) (a c : Float) (l : Line) → LineAlike s t a c l → ordered_of s a c l ≡ ordered_of t a c l
+same_ordered : (s t : Test) (a c : Float) (l : Line) → LineAlike s t a c l → ordered_of s a c l ≡ ordered_of t a c l
 unfolding ordered_of
-same-ordered s t a c l h = let m = h.middle in let p = h.left in let q = h.right in cc
+same_ordered s t a c l h = let m = h.middle in let p = h.left in let q = h.right in cc
 
 same_if : (b : Bool) (x y l : Line) → (T b → x ≡ y) → cond b x l ≡ cond b y l
 same_if true x y l h = h tt
@@ -28,19 +28,19 @@ same_if false x y l h = refl
 same_tests : (s t : Test) (a b c : Float) (l : Line) → TestsAlike s t a b c l → mended_of s a b c l ≡ mended_of t a b c l
 unfolding mended_of
 same_tests s t a b c l h =
-    rw (← h.control) (same_if (passes s a b c) (ordered_of s a c l) (ordered_of t a c l) l (λ p. same-ordered s t a c l (h.chopped p)))
+    rw (← h.control) (same_if (passes s a b c) (ordered_of s a c l) (ordered_of t a c l) l (λ p. same_ordered s t a c l (h.chopped p)))
 
-same-mended : (s t : Test) (a b c : Float) (l : Line) → AxisAlike s t a b c l → mended_of s a b c l ≡ mended_of t a b c l
-same-mended s t a b c l h = ⊎_elim (same_tests s t a b c l) (λ p. stay s a b c l p.0 ∙ sym (stay t a b c l p.1)) h
+same_mended : (s t : Test) (a b c : Float) (l : Line) → AxisAlike s t a b c l → mended_of s a b c l ≡ mended_of t a b c l
+same_mended s t a b c l h = ⊎_elim (same_tests s t a b c l) (λ p. stay s a b c l p.0 ∙ sym (stay t a b c l p.1)) h
 
 both_lines : (l m : Lines) → l.x ≡ m.x → l.y ≡ m.y → l ≡ m
 both_lines l m p q = rw (p, q) refl
 
-pub same-halves : (v : Rule) (c : Conic) → ChopAlike v c → chop_by_rule (with_rule v c) ≡ with_rules v (chop_by_rule c)
+pub same_halves : (v : Rule) (c : Conic) → ChopAlike v c → chop_by_rule (with_rule v c) ≡ with_rules v (chop_by_rule c)
 unfolding chop_at chop_by_rule halves_at lines_at
-same-halves v c h =
+same_halves v c h =
     let l = lines_of c in
-    let x = same-mended (test_along X c.rule) (test_along X v) c.p0.x c.p1.x c.p2.x l.x (h X) in
-    let y = same-mended (test_along Y c.rule) (test_along Y v) c.p0.y c.p1.y c.p2.y l.y (h Y) in
+    let x = same_mended (test_along X c.rule) (test_along X v) c.p0.x c.p1.x c.p2.x l.x (h X) in
+    let y = same_mended (test_along Y c.rule) (test_along Y v) c.p0.y c.p1.y c.p2.y l.y (h Y) in
     let same : mended_lines c l ≡ mended_lines (with_rule v c) l = both_lines (mended_lines c l) (mended_lines (with_rule v c) l) x y in
     ap (λ (m : Lines). halves_at (weight_of c.weight) (with_rule v c) m) (sym same)

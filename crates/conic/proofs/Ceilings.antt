@@ -9,7 +9,7 @@ use lib.Ieee.{Float, le}
 use Rattle.float_laws.specs.Formula.{◌⊗◌, quarter32}
 use Rattle.conic.specs.declared.Conic.{Conic}
 use Rattle.conic.specs.Level.{ceiling, crate_ceiling, bad_ceiling, error_of, quarterings_of, at_least_one, level_of}
-use Rattle.conic.proofs.Levels.{level-low}
+use Rattle.conic.proofs.Levels.{level_low}
 
 one_of : (m : ℕ) (a b : Bool) → (T a → m ≡ crate_ceiling) → (T b → m ≡ ceiling) → (not a && not b) ≡ false → (1 ≤ m) × (m ≤ ceiling)
 one_of m true b four six h = let e = four tt in (omega (arith, e), omega (arith, e))
@@ -19,16 +19,16 @@ one_of m false false four six h = absurd (true≢false h)
 pub level_is_cut : (m : ℕ) (c : Conic) (t : Float) → bad_ceiling m ≡ false → level_of m c t ≤ ceiling
 level_is_cut m c t h =
     let known = one_of m (eqb m crate_ceiling) (eqb m ceiling) (eqb→eq m crate_ceiling) (eqb→eq m ceiling) h in
-    omega (arith, level-low m c t known.0, known.1)
+    omega (arith, level_low m c t known.0, known.1)
 
 -- one step of either count
 same_step : (b : Bool) (p q m : ℕ) → (q ≤ m → p ≡ q) → cond b 0 (suc q) ≤ suc m → cond b 0 (suc p) ≡ cond b 0 (suc q)
 same_step true p q m same h = refl
 same_step false p q m same h = ap suc (same (omega arith))
 
-top-step : (b : Bool) (p q m : ℕ) → (m < q → p ≡ m) → suc m < cond b 0 (suc q) → cond b 0 (suc p) ≡ suc m
-top-step true p q m top h = absurd (omega arith)
-top-step false p q m top h = ap suc (top (omega arith))
+top_step : (b : Bool) (p q m : ℕ) → (m < q → p ≡ m) → suc m < cond b 0 (suc q) → cond b 0 (suc p) ≡ suc m
+top_step true p q m top h = absurd (omega arith)
+top_step false p q m top h = ap suc (top (omega arith))
 
 same_count : (m n : ℕ) (e t : Float) → m ≤ n → quarterings_of n e t ≤ m → quarterings_of m e t ≡ quarterings_of n e t
 unfolding quarterings_of
@@ -44,7 +44,7 @@ top_count zero n e t h = refl
 top_count (suc m) zero e t h = absurd (omega arith)
 top_count (suc m) (suc n) e t h =
     let f = e ⊗ quarter32 in
-    top-step (le e t) (quarterings_of m f t) (quarterings_of n f t) m (top_count m n f t) h
+    top_step (le e t) (quarterings_of m f t) (quarterings_of n f t) m (top_count m n f t) h
 
 under : (q m : ℕ) → at_least_one q ≤ m → q ≤ m
 under zero m h = omega arith
@@ -58,11 +58,11 @@ kept : (m : ℕ) → 1 ≤ m → at_least_one m ≡ m
 kept zero k = absurd (omega arith)
 kept (suc m) k = refl
 
-pub same-level : (m n : ℕ) (c : Conic) (t : Float) → m ≤ n → level_of n c t ≤ m → level_of m c t ≡ level_of n c t
+pub same_level : (m n : ℕ) (c : Conic) (t : Float) → m ≤ n → level_of n c t ≤ m → level_of m c t ≡ level_of n c t
 unfolding level_of
-same-level m n c t k h = ap at_least_one (same_count m n (error_of c) t k (under (quarterings_of n (error_of c) t) m h))
+same_level m n c t k h = ap at_least_one (same_count m n (error_of c) t k (under (quarterings_of n (error_of c) t) m h))
 
-pub top-level : (m n : ℕ) (c : Conic) (t : Float) → 1 ≤ m → m < level_of n c t → level_of m c t ≡ m
+pub top_level : (m n : ℕ) (c : Conic) (t : Float) → 1 ≤ m → m < level_of n c t → level_of m c t ≡ m
 unfolding level_of
-top-level m n c t k h =
+top_level m n c t k h =
     ap at_least_one (top_count m n (error_of c) t (over (quarterings_of n (error_of c) t) m k h)) ∙ kept m k

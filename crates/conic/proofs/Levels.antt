@@ -25,9 +25,9 @@ low : (n m : ℕ) → n ≤ m → 1 ≤ m → at_least_one n ≤ m
 low zero m h k = k
 low (suc n) m h k = h
 
-pub level-low : (m : ℕ) (c : Conic) (t : Float) → 1 ≤ m → level_of m c t ≤ m
+pub level_low : (m : ℕ) (c : Conic) (t : Float) → 1 ≤ m → level_of m c t ≤ m
 unfolding level_of
-level-low m c t k = low (quarterings_of m (error_of c) t) m (few m (error_of c) t) k
+level_low m c t k = low (quarterings_of m (error_of c) t) m (few m (error_of c) t) k
 
 module _ {A : Type 0} (of : Level → A) where
   of_answer : (none bad short good : Bool) (n : ℕ)

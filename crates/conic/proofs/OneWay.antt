@@ -6,7 +6,7 @@ use lib.Dec.{T}
 use lib.Ieee.{Float, binary32, le}
 use lib.Ieee.Fits.{and_l, and_r}
 use lib.Ieee.Scale.{finite}
-use Rattle.float_laws.proofs.Differences.{sub-finite, part-finite, rising-product, falling_product}
+use Rattle.float_laws.proofs.Differences.{sub_finite, part_finite, rising_product, falling_product}
 use Rattle.float_laws.proofs.Order.{or_case}
 use Rattle.float_laws.specs.Formula.{◌⊖◌}
 use Rattle.conic.specs.declared.Conic.{Conic}
@@ -19,7 +19,7 @@ use Rattle.conic.specs.Chop.{along, wide_line, plain_lines, lines_at, settled_li
 use Rattle.conic.specs.Laws.{Asks, PassesEveryTest, StaysByEveryRule, PlainIsTheChop}
 use Rattle.conic.specs.Mend.{in_order, mended_of, rises_of, runs_of, settled_of, settled_by}
 use Rattle.conic.specs.Rule.{Axis, X, Y, test_along}
-use Rattle.conic.proofs.Ways.{Way, up_way, down-way, true_of}
+use Rattle.conic.proofs.Ways.{Way, up_way, down_way, true_of}
 use Rattle.conic.proofs.Whole.{lines_whole, stay}
 
 holds : (b : Bool) → b ≡ true → T b
@@ -54,15 +54,15 @@ module _ (W : Way) (P : Product-within W) where
 up_within : Product-within up_way
 unfolding up_way
 up_within = record {
-  product = rising-product;
-  parts = λ a b c h k f. let p = part-finite binary32 a b c h k f in (p.1, p.3);
+  product = rising_product;
+  parts = λ a b c h k f. let p = part_finite binary32 a b c h k f in (p.1, p.3);
 }
 
-down-within : Product-within down-way
-unfolding down-way
+down-within : Product-within down_way
+unfolding down_way
 down-within = record {
   product = falling_product;
-  parts = λ a b c h k f. let p = part-finite binary32 c b a k h (sub-finite binary32 c a f).2 in (p.2, p.0);
+  parts = λ a b c h k f. let p = part_finite binary32 c b a k h (sub_finite binary32 c a f).2 in (p.2, p.0);
 }
 
 four : (p q r s : Bool) → T (((p && q) && r) && s) → T p × T q × T r × T s
@@ -72,7 +72,7 @@ four p q r s h =
     (and_l p q pq, and_r p q pq, and_r (p && q) r pqr, and_r ((p && q) && r) s h)
 
 pub passes_every_test : PassesEveryTest
-unfolding settled_of runs_of rises_of up_way down-way
+unfolding settled_of runs_of rises_of up_way down_way
 passes_every_test t n a c l e =
     let h = holds (settled_of a c l) e in
     let f = and_r (runs_of a c l) (finite (c ⊖ a)) h in
@@ -80,7 +80,7 @@ passes_every_test t n a c l e =
     (λ u. let s = four (le a l.left) (le l.left l.middle) (le l.middle l.right) (le l.right c) u in
     one_way up_way up_within t n a c l s.0 s.1 s.2 s.3 f)
     (λ d. let s = four (le c l.right) (le l.right l.middle) (le l.middle l.left) (le l.left a) d in
-    one_way down-way down-within t n a c l s.3 s.2 s.1 s.0 f)
+    one_way down_way down-within t n a c l s.3 s.2 s.1 s.0 f)
     (and_l (runs_of a c l) (finite (c ⊖ a)) h)
 
 -- ---- both axes, and every rule

@@ -11,8 +11,8 @@ use Rattle.conic.specs.declared.Rule.{Rule}
 use Rattle.conic.specs.Level.{Chosen}
 use Rattle.conic.specs.Source.{Taken}
 
-pub one-taken : (l : List Float) (w : Float) (u : Rule) (r s : FromPoints) → Taken l w u r → Taken l w u s → r ≡ s
-one-taken l w u r s p q = p.answer ∙ sym q.answer
+pub one_taken : (l : List Float) (w : Float) (u : Rule) (r s : FromPoints) → Taken l w u r → Taken l w u s → r ≡ s
+one_taken l w u r s p q = p.answer ∙ sym q.answer
 
-pub one-chosen : (m : ℕ) (short : Bool) (c : Conic) (t : Float) (r s : Level) → Chosen m short c t r → Chosen m short c t s → r ≡ s
-one-chosen m short c t r s p q = p.answer ∙ sym q.answer
+pub one_chosen : (m : ℕ) (short : Bool) (c : Conic) (t : Float) (r s : Level) → Chosen m short c t r → Chosen m short c t s → r ≡ s
+one_chosen m short c t r s p q = p.answer ∙ sym q.answer

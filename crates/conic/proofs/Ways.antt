@@ -8,7 +8,7 @@ use lib.Dec.{T}
 use lib.Ieee.{Float, le, lt}
 use lib.Ieee.Fits.{and_l, and_r, and_i}
 use lib.Ieee.Scale.{finite}
-use Rattle.float_laws.proofs.Order.{le_trans-float, le_self, finite-between, or_case, or_left, or_right}
+use Rattle.float_laws.proofs.Order.{le_trans_float, le_self, finite_between, or_case, or_left, or_right}
 use Rattle.float_laws.specs.Absolute.{abs_of}
 use Rattle.float_laws.specs.Formula.{◌⊖◌}
 use Rattle.conic.specs.declared.Conic.{Conic}
@@ -36,19 +36,19 @@ pair a b t = (and_l a b t, and_r a b t)
 unfoldable pub up_way : Way
 up_way = record {
   rel = le;
-  through = le_trans-float;
+  through = le_trans_float;
   self = le_self;
-  squeeze = finite-between;
+  squeeze = finite_between;
   seen = λ a b c t. or_case (le a b && le b c) (le b a && le c b) (λ h. inl (pair (le a b) (le b c) h)) (λ h. inr (pair (le b a) (le c b) h)) t;
   passes = λ a b c h k. or_left (le a b && le b c) (le b a && le c b) (and_i (le a b) (le b c) h k);
 }
 
-unfoldable pub down-way : Way
-down-way = record {
+unfoldable pub down_way : Way
+down_way = record {
   rel = λ x y. le y x;
-  through = λ x y z h k. le_trans-float z y x k h;
+  through = λ x y z h k. le_trans_float z y x k h;
   self = le_self;
-  squeeze = λ x y z p q h k. finite-between z y x q p k h;
+  squeeze = λ x y z p q h k. finite_between z y x q p k h;
   seen = λ a b c t. or_case (le a b && le b c) (le b a && le c b) (λ h. inr (pair (le a b) (le b c) h)) (λ h. inl (pair (le b a) (le c b) h)) t;
   passes = λ a b c h k. or_right (le a b && le b c) (le b a && le c b) (and_i (le b a) (le c b) h k);
 }
@@ -98,21 +98,21 @@ module _ (W : Way) where
   within : (a x c : Float) → T (exact_test a x c) → R a c → Within a c x
   within a x c t h = ⊎_elim (λ p. p) (λ p. (W.through a c x h p.1, W.through x a c p.0 h)) (W.seen a x c t)
 
-  nearer-within : (a m c : Float) → T (finite a) → T (finite c) → R a c → Within a c (nearer_of a m c)
+  nearer_within : (a m c : Float) → T (finite a) → T (finite c) → R a c → Within a c (nearer_of a m c)
   unfolding nearer_of
-  nearer-within a m c p q h = by_test (Within a c) (lt (abs_of (m ⊖ a)) (abs_of (m ⊖ c))) a c (λ _. (W.self a p, h)) (h, W.self c q)
+  nearer_within a m c p q h = by_test (Within a c) (lt (abs_of (m ⊖ a)) (abs_of (m ⊖ c))) a c (λ _. (W.self a p, h)) (h, W.self c q)
 
   -- a correction leaves what is within, and else takes a place that is
   kept-within : (a x c y : Float) → R a c → Within a c y → Within a c (cond (exact_test a x c) x y)
   kept-within a x c y h k = by_test (Within a c) (exact_test a x c) x y (λ t. within a x c t h) k
 
   -- both halves of an ordered line
-  line-runs : (a c : Float) (l : Line) → T (finite a) → T (finite c) → R a c
+  line_runs : (a c : Float) (l : Line) → T (finite a) → T (finite c) → R a c
       → Run a (ordered_of By.Exact a c l).left (ordered_of By.Exact a c l).middle × Run (ordered_of By.Exact a c l).middle (ordered_of By.Exact a c l).right c
   unfolding ordered_of passes
-  line-runs a c l p q h =
+  line_runs a c l p q h =
       let m = (ordered_of By.Exact a c l).middle in
-      let mid : Within a c m = kept-within a l.middle c (nearer_of a l.middle c) h (nearer-within a l.middle c p q h) in
+      let mid : Within a c m = kept-within a l.middle c (nearer_of a l.middle c) h (nearer_within a l.middle c p q h) in
       let left = kept-within a l.left m a mid.0 (W.self a p, mid.0) in
       let right = kept-within m l.right c c mid.1 (mid.1, W.self c q) in
       let fin-m = W.squeeze a m c p q mid.0 mid.1 in (
@@ -135,7 +135,7 @@ module _ (W : Way) where
       let e = along k c.p2 in
       let l = lines_of c in
       let same = is_ordered k c l o (W.passes a b e g.low g.high) in
-      let runs = line-runs a e (on k l) g.first g.last (W.through a b e g.low g.high) in
+      let runs = line_runs a e (on k l) g.first g.last (W.through a b e g.low g.high) in
       halves_of k (weight_of c.weight) c (mended_lines c l) (rw same runs.0) (rw same runs.1)
 
 -- both halves have the conic's rule
@@ -143,5 +143,5 @@ pub halves_rule : (c : Conic) → ((chop_by_rule c).first.rule ≡ c.rule) × ((
 unfolding chop_at chop_by_rule halves_at
 halves_rule c = (refl, refl)
 
-pub halves-ordered : (k : Axis) (c : Conic) → PutsInOrder k c → PutsInOrder k (chop_by_rule c).first × PutsInOrder k (chop_by_rule c).second
-halves-ordered k c o = (ap (test_along k) (halves_rule c).0 ∙ o, ap (test_along k) (halves_rule c).1 ∙ o)
+pub halves_ordered : (k : Axis) (c : Conic) → PutsInOrder k c → PutsInOrder k (chop_by_rule c).first × PutsInOrder k (chop_by_rule c).second
+halves_ordered k c o = (ap (test_along k) (halves_rule c).0 ∙ o, ap (test_along k) (halves_rule c).1 ∙ o)

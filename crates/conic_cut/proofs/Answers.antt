@@ -19,9 +19,9 @@ use Rattle.conic_cut.specs.declared.Cut.TheVariants.{Quads, Refused}
 use Rattle.point.specs.Numbers.{flat, points_of}
 use Rattle.conic_cut.specs.Cut.{written, room, cut_answer, cut_buffer, number_of_cut, values_of_cut, CutInto}
 use Rattle.conic_cut.specs.Order.{cut_in, InOrder, OrderKept}
-use Rattle.conic_cut.proofs.Lists.{sets-whole}
-use Rattle.conic_cut.proofs.Order.{cut-in_order}
-use Rattle.conic_cut.proofs.Stores.{flat-length, points-flat, written-length}
+use Rattle.conic_cut.proofs.Lists.{sets_whole}
+use Rattle.conic_cut.proofs.Order.{cut_in_order}
+use Rattle.conic_cut.proofs.Stores.{flat-length, points_flat, written-length}
 
 of_answer : {A : Type 0} (of : Cut → A) (deep short : Bool) (q : ℕ)
     → of (cond deep (Refused LevelTooHigh) (cond short (Refused BufferTooShort) (Quads q)))
@@ -50,26 +50,26 @@ module _ (f : Conic → Halves) (n : ℕ) (c : Conic) (short : Bool) (l : List F
   too_short h k = cut_into (rw (le-ltb ceiling n h, k)) (rw (le-ltb ceiling n h, k))
 
 module _ (f : Conic → Halves) (n : ℕ) (c : Conic) (l : List Float) (low : n ≤ ceiling) (fits : room n ≤ length l) where
-  pub answer-cut : Quads (2 ^ n) ≡ cut_answer n (length l) false
+  pub answer_cut : Quads (2 ^ n) ≡ cut_answer n (length l) false
   unfolding cut_answer
-  answer-cut = rw (le-ltb ceiling n low, le-ltb (length l) (room n) fits)
+  answer_cut = rw (le-ltb ceiling n low, le-ltb (length l) (room n) fits)
 
-  pub buffer-cut : cut_buffer f n c false l ≡ flat (written f n c) ++ drop (room n) l
+  pub buffer_cut : cut_buffer f n c false l ≡ flat (written f n c) ++ drop (room n) l
   unfolding cut_buffer
-  buffer-cut = rw (le-ltb ceiling n low, le-ltb (length l) (room n) fits)
+  buffer_cut = rw (le-ltb ceiling n low, le-ltb (length l) (room n) fits)
 
   pub stored_cut : sets l 0 (flat (written f n c)) ≡ cut_buffer f n c false l
-  stored_cut = sets-whole (flat (written f n c)) l (room n) (omega (arith, flat-length (written f n c), written-length f n c)) fits ∙ sym buffer-cut
+  stored_cut = sets_whole (flat (written f n c)) l (room n) (omega (arith, flat-length (written f n c), written-length f n c)) fits ∙ sym buffer_cut
 
 pub kept_order : (n : ℕ) (c : Conic) (l l₁ : List Float) → l₁ ≡ cut_buffer chop_by_rule n c false l → OrderKept n c l l₁
 kept_order n c l l₁ e k o low fits bridge =
     let ps = written chop_by_rule n c in
-    let stored = e ∙ buffer-cut chop_by_rule n c l low fits in
+    let stored = e ∙ buffer_cut chop_by_rule n c l low fits in
     let long : length (flat ps) ≡ room n = omega (arith, flat-length ps, written-length chop_by_rule n c) in
-    let there : cut_in n l₁ ≡ ps = ap (cut_in n) stored ∙ ap points_of (take_at (flat ps) (drop (room n) l) (room n) long) ∙ points-flat ps in
+    let there : cut_in n l₁ ≡ ps = ap (cut_in n) stored ∙ ap points_of (take_at (flat ps) (drop (room n) l) (room n) long) ∙ points_flat ps in
     record {
       count = ap length there ∙ written-length chop_by_rule n c;
-      in_order = subst⁻¹ (InOrder k c) there (cut-in_order k n c o bridge);
+      in_order = subst⁻¹ (InOrder k c) there (cut_in_order k n c o bridge);
       rest = ap (drop (room n)) stored ∙ drop_at (flat ps) (drop (room n) l) (room n) long;
     }
 

@@ -13,17 +13,17 @@ use Rattle.conic.specs.declared.Refusal.{Refusal}
 use Rattle.conic.specs.declared.Refusal.TheVariants.{PointNotFinite}
 use Rattle.conic.specs.Chop.{chop_by_rule}
 use Rattle.conic.specs.Level.{ceiling, crate_ceiling, bad_tolerance, conic_finite, level_answer}
-use Rattle.conic.proofs.Levels.{level-low}
+use Rattle.conic.proofs.Levels.{level_low}
 use Rattle.conic_cut.specs.declared.AutoConicToQuads.{AutoConicToQuads}
 use Rattle.conic_cut.specs.declared.Cut.{Cut}
 use Rattle.conic_cut.specs.declared.Cut.TheVariants.{Quads, Refused}
 use Rattle.conic_cut.specs.Auto.{zeros, auto_level, auto_answer, auto_points, Computed}
 use Rattle.conic_cut.specs.Cut.{room, cut_answer, cut_buffer, number_of_cut, values_of_cut}
-use Rattle.conic_cut.proofs.Answers.{answer-cut, buffer-cut}
+use Rattle.conic_cut.proofs.Answers.{answer_cut, buffer_cut}
 
-quarter-good : bad_tolerance quarter32 ≡ false
+quarter_good : bad_tolerance quarter32 ≡ false
 unfolding lt of_bits
-quarter-good = refl
+quarter_good = refl
 
 by_level : (b : Bool) (m n : ℕ) → cond b (L.Pow2 m) (L.Refused PointNotFinite) ≡ L.Pow2 n → (b ≡ true) × (n ≡ m)
 by_level true m n e = (refl, cc)
@@ -35,22 +35,22 @@ by_refusal false m q e = (refl, cc)
 
 answer_is : (c : Conic) → level_answer crate_ceiling false c quarter32 ≡ cond (conic_finite c) (L.Pow2 (auto_level c)) (L.Refused PointNotFinite)
 unfolding level_answer
-answer_is c = rw quarter-good
+answer_is c = rw quarter_good
 
-room-there : (n : ℕ) → n ≤ crate_ceiling → room n ≤ length zeros
+room_there : (n : ℕ) → n ≤ crate_ceiling → room n ≤ length zeros
 unfolding zeros
-room-there n h = omega (arith, pow_mono h)
+room_there n h = omega (arith, pow_mono h)
 
 pub auto_cut : (c : Conic) (n : ℕ) → level_answer crate_ceiling false c quarter32 ≡ L.Pow2 n
     → (cut_answer n (length zeros) false ≡ auto_answer c) × (cut_buffer chop_by_rule n c false zeros ≡ auto_points c)
 unfolding auto_answer auto_points
 auto_cut c n e =
     let t = by_level (conic_finite c) (auto_level c) n (sym (answer_is c) ∙ e) in
-    let low = level-low crate_ceiling c quarter32 (omega arith) in
+    let low = level_low crate_ceiling c quarter32 (omega arith) in
     let h : auto_level c ≤ ceiling = omega (arith, low) in
-    let fits = room-there (auto_level c) low in
+    let fits = room_there (auto_level c) low in
     rw (t.0, t.1)
-    (sym (answer-cut chop_by_rule (auto_level c) c zeros h fits), buffer-cut chop_by_rule (auto_level c) c zeros h fits)
+    (sym (answer_cut chop_by_rule (auto_level c) c zeros h fits), buffer_cut chop_by_rule (auto_level c) c zeros h fits)
 
 pub auto_refused : (c : Conic) (q : Refusal) → level_answer crate_ceiling false c quarter32 ≡ L.Refused q → (Refused q ≡ auto_answer c) × (zeros ≡ auto_points c)
 unfolding auto_answer auto_points

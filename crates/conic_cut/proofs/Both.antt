@@ -14,10 +14,10 @@ use Rattle.conic_cut.specs.Cut.{room, cut_buffer}
 use Rattle.conic_cut.specs.Order.{Premise, OrderedCut}
 use Rattle.conic_cut.proofs.Answers.{kept_order}
 
-pub neither-turns_back : (n : ℕ) (c : Conic) (l : List Float) → c.rule ≡ BothAxes → n ≤ ceiling → room n ≤ length l
+pub neither_turns_back : (n : ℕ) (c : Conic) (l : List Float) → c.rule ≡ BothAxes → n ≤ ceiling → room n ≤ length l
     → Premise X c → Premise Y c
     → OrderedCut X n c l (cut_buffer chop_by_rule n c false l) × OrderedCut Y n c l (cut_buffer chop_by_rule n c false l)
 unfolding test_along
-neither-turns_back n c l e low fits gx gy =
+neither_turns_back n c l e low fits gx gy =
     let kept = kept_order n c l (cut_buffer chop_by_rule n c false l) refl in
     (kept X (ap (test_along X) e) low fits gx, kept Y (ap (test_along Y) e) low fits gy)

@@ -1,6 +1,6 @@
 -- What the stores of a cut leave in the buffer, for any step and every level. Assumes nothing.
 use mathlib.Core.Path.{◌≡◌, refl, sym, ap, ◌∙◌}
-use mathlib.Core.Bool.{Bool, true, false, cond, ◌&&◌, and-true, and_assoc}
+use mathlib.Core.Bool.{Bool, true, false, cond, ◌&&◌, and_true, and_assoc}
 use mathlib.Core.List.{List, [], ◌∷◌, ◌++◌, append_assoc}
 use Prim.Native.Nat.{ℕ, zero, suc, ◌+◌, ◌-◌, ◌*◌, ◌^◌, ◌≤◌, ◌<◌}
 use native.Mathlib.Nat.{two-pow-succ}
@@ -37,20 +37,20 @@ flat-length [] = refl
 flat-length (p ∷ ps) = omega (arith, flat-length ps)
 
 -- the numbers of the points are read back as these points
-pub points-flat : (ps : List Point) → points_of (flat ps) ≡ ps
+pub points_flat : (ps : List Point) → points_of (flat ps) ≡ ps
 unfolding flat points_of
-points-flat [] = refl
-points-flat (p ∷ ps) = ap (λ (l : List Point). p ∷ l) (points-flat ps)
+points_flat [] = refl
+points_flat (p ∷ ps) = ap (λ (l : List Point). p ∷ l) (points_flat ps)
 
-pub cut-length : (f : Conic → Halves) (n : ℕ) (c : Conic) → length (cut_points f n c) ≡ 2 * 2 ^ n
+pub cut_length : (f : Conic → Halves) (n : ℕ) (c : Conic) → length (cut_points f n c) ≡ 2 * 2 ^ n
 unfolding cut_points
-cut-length f zero c = refl
-cut-length f (suc n) c =
+cut_length f zero c = refl
+cut_length f (suc n) c =
     length-append (cut_points f n (f c).first) (cut_points f n (f c).second)
-    ∙ rw two-pow-succ (omega (arith, cut-length f n (f c).first, cut-length f n (f c).second))
+    ∙ rw two-pow-succ (omega (arith, cut_length f n (f c).first, cut_length f n (f c).second))
 
-numbers-length : (f : Conic → Halves) (n : ℕ) (c : Conic) → length (flat (cut_points f n c)) ≡ 4 * 2 ^ n
-numbers-length f n c = omega (arith, flat-length (cut_points f n c), cut-length f n c)
+numbers_length : (f : Conic → Halves) (n : ℕ) (c : Conic) → length (flat (cut_points f n c)) ≡ 4 * 2 ^ n
+numbers_length f n c = omega (arith, flat-length (cut_points f n c), cut_length f n c)
 
 pinned-length : (n : ℕ) (c : Conic) → length (pinned n c) ≡ 2 * 2 ^ n + 1
 unfolding pinned
@@ -58,58 +58,58 @@ pinned-length n c =
     let pins = replicate (2 * 2 ^ n - 1) c.p1 in
     omega (arith, pow_pos n, length-append pins (c.p2 ∷ []), length-replicate (2 * 2 ^ n - 1) c.p1)
 
-either-length : (b : Bool) (p q : List Point) (k : ℕ) → length p ≡ k → length q ≡ k → length (cond b p q) ≡ k
-either-length true p q k e g = e
-either-length false p q k e g = g
+either_length : (b : Bool) (p q : List Point) (k : ℕ) → length p ≡ k → length q ≡ k → length (cond b p q) ≡ k
+either_length true p q k e g = e
+either_length false p q k e g = g
 
 pub written-length : (f : Conic → Halves) (n : ℕ) (c : Conic) → length (written f n c) ≡ 2 * 2 ^ n + 1
 unfolding written
 written-length f n c =
-    either-length (all_finite (plain f n c)) (plain f n c) (pinned n c) (2 * 2 ^ n + 1) (omega (arith, cut-length f n c)) (pinned-length n c)
+    either_length (all_finite (plain f n c)) (plain f n c) (pinned n c) (2 * 2 ^ n + 1) (omega (arith, cut_length f n c)) (pinned-length n c)
 
 -- ---- the recursion: l before, l₁ between and l₂ after
-pub stored-zero : (f : Conic → Halves) (n : ℕ) (c : Conic) (l l₁ : List Float) (at r : ℕ) → n ≡ 0
+pub stored_zero : (f : Conic → Halves) (n : ℕ) (c : Conic) (l l₁ : List Float) (at r : ℕ) → n ≡ 0
     → (r ≡ at + 4) × (l₁ ≡ sets l at (flat (c.p1 ∷ c.p2 ∷ []))) → (r ≡ at + 4 * 2 ^ n) × (l₁ ≡ sets l at (flat (cut_points f n c)))
 unfolding cut_points
-stored-zero f n c l l₁ at r h e = rw h (omega (arith, e.0), e.1)
+stored_zero f n c l l₁ at r h e = rw h (omega (arith, e.0), e.1)
 
 -- h is the halves, or others that are stored alike
-pub stored-halves : (f : Conic → Halves) (n : ℕ) (c : Conic) (h : Halves) (l l₁ : List Float) (at r : ℕ) → n ≡ 1
+pub stored_halves : (f : Conic → Halves) (n : ℕ) (c : Conic) (h : Halves) (l l₁ : List Float) (at r : ℕ) → n ≡ 1
     → cut_points f (n - 1) h.first ≡ cut_points f (n - 1) (f c).first → cut_points f (n - 1) h.second ≡ cut_points f (n - 1) (f c).second
     → (r ≡ at + 8) × (l₁ ≡ sets l at (flat (half_points h))) → (r ≡ at + 4 * 2 ^ n) × (l₁ ≡ sets l at (flat (cut_points f n c)))
 unfolding cut_points
-stored-halves f n c h l l₁ at r e p q g =
+stored_halves f n c h l l₁ at r e p q g =
     let first = rw e at p in
     let second = rw e at q in
     let same : half_points h ≡ cut_points f 1 c =
     ap (λ (ps : List Point). ps ++ cut_points f 0 h.second) first ∙ ap (λ (ps : List Point). cut_points f 0 (f c).first ++ ps) second in
     rw e (omega (arith, g.0), g.1 ∙ ap (λ (ps : List Point). sets l at (flat ps)) same)
 
-cut-more : (f : Conic → Halves) (n : ℕ) (c : Conic) → (n ≡ 0 → ⊥)
+cut_more : (f : Conic → Halves) (n : ℕ) (c : Conic) → (n ≡ 0 → ⊥)
     → cut_points f n c ≡ cut_points f (n - 1) (f c).first ++ cut_points f (n - 1) (f c).second
 unfolding cut_points
-cut-more f zero c h = absurd (h refl)
-cut-more f (suc n) c h = rw sub-one refl
+cut_more f zero c h = absurd (h refl)
+cut_more f (suc n) c h = rw sub-one refl
 
 -- two cuts, one after the other
-pub stored-both : (f : Conic → Halves) (n : ℕ) (a b : Conic) (l l₁ l₂ : List Float) (at r₁ r₂ : ℕ)
+pub stored_both : (f : Conic → Halves) (n : ℕ) (a b : Conic) (l l₁ l₂ : List Float) (at r₁ r₂ : ℕ)
     → (r₁ ≡ at + 4 * 2 ^ n) × (l₁ ≡ sets l at (flat (cut_points f n a))) → (r₂ ≡ r₁ + 4 * 2 ^ n) × (l₂ ≡ sets l₁ r₁ (flat (cut_points f n b)))
     → (r₂ ≡ at + 8 * 2 ^ n) × (l₂ ≡ sets l at (flat (cut_points f n a ++ cut_points f n b)))
-stored-both f n a b l l₁ l₂ at r₁ r₂ e g =
+stored_both f n a b l l₁ l₂ at r₁ r₂ e g =
     let p = flat (cut_points f n a) in
     let q = flat (cut_points f n b) in (
       omega (arith, e.0, g.0),
-      g.1 ∙ ap (λ (k : List Float). sets k r₁ q) e.1 ∙ sets_then p q l at r₁ (omega (arith, e.0, numbers-length f n a))
+      g.1 ∙ ap (λ (k : List Float). sets k r₁ q) e.1 ∙ sets_then p q l at r₁ (omega (arith, e.0, numbers_length f n a))
           ∙ ap (sets l at) (sym (flat_append (cut_points f n a) (cut_points f n b))),
     )
 
 -- a and b are the halves, or others that are cut alike
-pub stored-joined : (f : Conic → Halves) (n : ℕ) (c a b : Conic) (l l₂ : List Float) (at r₂ : ℕ) → (n ≡ 0 → ⊥)
+pub stored_joined : (f : Conic → Halves) (n : ℕ) (c a b : Conic) (l l₂ : List Float) (at r₂ : ℕ) → (n ≡ 0 → ⊥)
     → cut_points f (n - 1) a ≡ cut_points f (n - 1) (f c).first → cut_points f (n - 1) b ≡ cut_points f (n - 1) (f c).second
     → (r₂ ≡ at + 8 * 2 ^ (n - 1)) × (l₂ ≡ sets l at (flat (cut_points f (n - 1) a ++ cut_points f (n - 1) b)))
     → (r₂ ≡ at + 4 * 2 ^ n) × (l₂ ≡ sets l at (flat (cut_points f n c)))
-stored-joined f n c a b l l₂ at r₂ nz ea eb g =
-    (omega (arith, g.0, pow_more n nz), g.1 ∙ rw (ea, eb) (ap (λ (ps : List Point). sets l at (flat ps)) (sym (cut-more f n c nz))))
+stored_joined f n c a b l l₂ at r₂ nz ea eb g =
+    (omega (arith, g.0, pow_more n nz), g.1 ∙ rw (ea, eb) (ap (λ (ps : List Point). sets l at (flat ps)) (sym (cut_more f n c nz))))
 
 pub stored_more : (f : Conic → Halves) (n : ℕ) (c a b : Conic) (l l₁ l₂ : List Float) (at r₁ r₂ : ℕ) → (n ≡ 0 → ⊥)
     → cut_points f (n - 1) a ≡ cut_points f (n - 1) (f c).first → cut_points f (n - 1) b ≡ cut_points f (n - 1) (f c).second
@@ -117,22 +117,22 @@ pub stored_more : (f : Conic → Halves) (n : ℕ) (c a b : Conic) (l l₁ l₂ 
     → (r₂ ≡ r₁ + 4 * 2 ^ (n - 1)) × (l₂ ≡ sets l₁ r₁ (flat (cut_points f (n - 1) b)))
     → (r₂ ≡ at + 4 * 2 ^ n) × (l₂ ≡ sets l at (flat (cut_points f n c)))
 stored_more f n c a b l l₁ l₂ at r₁ r₂ nz ea eb e g =
-    stored-joined f n c a b l l₂ at r₂ nz ea eb (stored-both f (n - 1) a b l l₁ l₂ at r₁ r₂ e g)
+    stored_joined f n c a b l l₂ at r₂ nz ea eb (stored_both f (n - 1) a b l l₁ l₂ at r₁ r₂ e g)
 
 -- ---- the same point stored n times
-pub pin-more : (p : Point) (n i next : ℕ) (l l₁ : List Float) → i < n → l₁ ≡ sets l next (flat (p ∷ []))
+pub pin_more : (p : Point) (n i next : ℕ) (l l₁ : List Float) → i < n → l₁ ≡ sets l next (flat (p ∷ []))
     → sets l₁ (next + 2) (flat (replicate (n - (i + 1)) p)) ≡ sets l next (flat (replicate (n - i) p))
 unfolding flat
-pin-more p n i next l l₁ h e =
+pin_more p n i next l l₁ h e =
     let k = n - (i + 1) in
     let f : n - i ≡ suc k = omega arith in
     ap (λ (z : List Float). sets z (next + 2) (flat (replicate k p))) e
     ∙ sets_then (flat (p ∷ [])) (flat (replicate k p)) l next (next + 2) refl
     ∙ ap (λ (m : ℕ). sets l next (flat (replicate m p))) (sym f)
 
-pub pin-done : (p : Point) (n i next : ℕ) (l : List Float) → n ≤ i → sets l next (flat (replicate (n - i) p)) ≡ l
+pub pin_done : (p : Point) (n i next : ℕ) (l : List Float) → n ≤ i → sets l next (flat (replicate (n - i) p)) ≡ l
 unfolding flat
-pin-done p n i next l h = let e : n - i ≡ 0 = omega arith in rw e
+pin_done p n i next l h = let e : n - i ≡ 0 = omega arith in rw e
 
 -- ---- the finite test over the numbers from i on
 pub all_more : (s : List Float) (i : ℕ) → i + 1 < length s
@@ -162,12 +162,12 @@ inner f (suc n) c = cut_points f n (f c).first ++ inner f n (f c).second
 abbrev pub KeepsEnd : (Conic → Halves) → Type 0
 KeepsEnd f = (c : Conic) → (f c).second.p2 ≡ c.p2
 
-pub cut-split : (f : Conic → Halves) → KeepsEnd f → (n : ℕ) (c : Conic) → cut_points f n c ≡ inner f n c ++ (c.p2 ∷ [])
+pub cut_split : (f : Conic → Halves) → KeepsEnd f → (n : ℕ) (c : Conic) → cut_points f n c ≡ inner f n c ++ (c.p2 ∷ [])
 unfolding cut_points inner
-cut-split f end zero c = refl
-cut-split f end (suc n) c =
+cut_split f end zero c = refl
+cut_split f end (suc n) c =
     ap (λ (l : List Point). cut_points f n (f c).first ++ l)
-    (cut-split f end n (f c).second ∙ ap (λ (p : Point). inner f n (f c).second ++ (p ∷ [])) (end c))
+    (cut_split f end n (f c).second ∙ ap (λ (p : Point). inner f n (f c).second ++ (p ∷ [])) (end c))
     ∙ sym (append_assoc (cut_points f n (f c).first) (inner f n (f c).second) (c.p2 ∷ []))
 
 -- ---- the whole cut: l before, l₁ with the first point, l₂ with all of them
@@ -175,9 +175,9 @@ module _ (f : Conic → Halves) (n : ℕ) (c : Conic) (l l₁ l₂ : List Float)
     (put : (r₁ ≡ 0 + 2) × (l₁ ≡ sets l 0 (flat (c.p0 ∷ []))))
     (cut : (r₂ ≡ r₁ + 4 * 2 ^ n) × (l₂ ≡ sets l₁ r₁ (flat (cut_points f n c))))
     (fits : 2 + 4 * 2 ^ n ≤ length l) where
-  all-stored : l₂ ≡ sets l 0 (flat (plain f n c))
+  all_stored : l₂ ≡ sets l 0 (flat (plain f n c))
   unfolding flat
-  all-stored =
+  all_stored =
       cut.1 ∙ ap (λ (k : List Float). sets k r₁ (flat (cut_points f n c))) put.1
       ∙ sets_then (flat (c.p0 ∷ [])) (flat (cut_points f n c)) l 0 r₁ put.0
 
@@ -186,26 +186,26 @@ module _ (f : Conic → Halves) (n : ℕ) (c : Conic) (l l₁ l₂ : List Float)
   tested =
       let ps = plain f n c in
       let there : take (r₂ - 0) l₂ ≡ flat ps =
-      ap (take (r₂ - 0)) all-stored ∙ sets-take (flat ps) l (r₂ - 0) (omega (arith, flat-length ps, cut-length f n c)) (omega arith) in
-      ap all_finite (ap points_of there ∙ points-flat ps)
+      ap (take (r₂ - 0)) all_stored ∙ sets-take (flat ps) l (r₂ - 0) (omega (arith, flat-length ps, cut_length f n c)) (omega arith) in
+      ap all_finite (ap points_of there ∙ points_flat ps)
 
   pub stored_fine : (b : Bool) → b ≡ all_finite (points_of (take (r₂ - 0) l₂)) → b ≡ true → l₂ ≡ sets l 0 (flat (written f n c))
   unfolding written
-  stored_fine b g t = all-stored ∙ rw (← tested, ← g, t)
+  stored_fine b g t = all_stored ∙ rw (← tested, ← g, t)
 
-  pub stored-pinned : (l₃ : List Float) (b : Bool) → b ≡ all_finite (points_of (take (r₂ - 0) l₂)) → b ≡ false
+  pub stored_pinned : (l₃ : List Float) (b : Bool) → b ≡ all_finite (points_of (take (r₂ - 0) l₂)) → b ≡ false
       → l₃ ≡ sets l₂ 0 (flat (pinned n c)) → l₃ ≡ sets l 0 (flat (written f n c))
   unfolding written
-  stored-pinned l₃ b g t h =
+  stored_pinned l₃ b g t h =
       let p = plain f n c in
       let q = pinned n c in
-      let long : length (flat p) ≡ length (flat q) = omega (arith, flat-length p, flat-length q, cut-length f n c, pinned-length n c) in
-      h ∙ rw (all-stored, ← tested, ← g, t) (sets-again (flat p) (flat q) l 0 long)
+      let long : length (flat p) ≡ length (flat q) = omega (arith, flat-length p, flat-length q, cut_length f n c, pinned-length n c) in
+      h ∙ rw (all_stored, ← tested, ← g, t) (sets-again (flat p) (flat q) l 0 long)
 
 -- ---- an end that is not finite
 all_append : (l : List Point) (p : Point) → all_finite (l ++ (p ∷ [])) ≡ (all_finite l && point_finite p)
 unfolding all_finite
-all_append [] p = and-true (point_finite p)
+all_append [] p = and_true (point_finite p)
 all_append (q ∷ l) p = ap (λ (b : Bool). point_finite q && b) (all_append l p) ∙ sym (and_assoc (point_finite q) (all_finite l) (point_finite p))
 
 of_ends : (p a q : Bool) → (p && q) ≡ false → (p && (a && q)) ≡ false
@@ -213,12 +213,12 @@ of_ends true true q h = h
 of_ends true false q h = refl
 of_ends false a q h = refl
 
-pub ends-pinned : (f : Conic → Halves) → KeepsEnd f → (n : ℕ) (c : Conic)
+pub ends_pinned : (f : Conic → Halves) → KeepsEnd f → (n : ℕ) (c : Conic)
     → (point_finite c.p0 && point_finite c.p2) ≡ false → pinned n c ≡ written f n c
 unfolding written all_finite
-ends-pinned f end n c h =
+ends_pinned f end n c h =
     let last : all_finite (cut_points f n c) ≡ (all_finite (inner f n c) && point_finite c.p2) =
-    ap all_finite (cut-split f end n c) ∙ all_append (inner f n c) c.p2 in
+    ap all_finite (cut_split f end n c) ∙ all_append (inner f n c) c.p2 in
     rw (last, of_ends (point_finite c.p0) (all_finite (inner f n c)) (point_finite c.p2) h) refl
 
 -- c's start, its middle n times, and its end, one after another

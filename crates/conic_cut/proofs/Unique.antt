@@ -11,9 +11,9 @@ use Rattle.conic_cut.specs.declared.Cut.{Cut}
 use Rattle.conic_cut.specs.Auto.{Computed}
 use Rattle.conic_cut.specs.Cut.{CutInto}
 
-pub one-cut : (f : Conic → Halves) (n : ℕ) (c : Conic) (short : Bool) (l : List Float) (r s : Cut) (l₁ l₂ : List Float)
+pub one_cut : (f : Conic → Halves) (n : ℕ) (c : Conic) (short : Bool) (l : List Float) (r s : Cut) (l₁ l₂ : List Float)
     → CutInto f n c short l r l₁ → CutInto f n c short l s l₂ → (r ≡ s) × (l₁ ≡ l₂)
-one-cut f n c short l r s l₁ l₂ p q = (p.answer ∙ sym q.answer, p.buffer ∙ sym q.buffer)
+one_cut f n c short l r s l₁ l₂ p q = (p.answer ∙ sym q.answer, p.buffer ∙ sym q.buffer)
 
-pub one-computed : (c : Conic) (r s : AutoConicToQuads) → Computed c r → Computed c s → (r.answer ≡ s.answer) × (r.points ≡ s.points)
-one-computed c r s p q = (p.answer ∙ sym q.answer, p.points ∙ sym q.points)
+pub one_computed : (c : Conic) (r s : AutoConicToQuads) → Computed c r → Computed c s → (r.answer ≡ s.answer) × (r.points ≡ s.points)
+one_computed c r s p q = (p.answer ∙ sym q.answer, p.points ∙ sym q.points)

@@ -52,7 +52,7 @@ pub record Premise (k : Axis) (c : Conic) : Type 0 where
 -- the points lead from the conic's start to its end, all finite, and along k they only rise or only fall
 pub record InOrder (k : Axis) (c : Conic) (ps : List Point) : Type 0 where
   pub one_way : OneWay k ps
-  pub all-finite : AllFiniteCoordinates ps
+  pub all_finite_lem : AllFiniteCoordinates ps
   pub first : first_of c.p0 ps ≡ c.p0
   pub last : last_of c.p0 ps ≡ c.p2
 

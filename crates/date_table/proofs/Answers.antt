@@ -7,8 +7,8 @@ use Rattle.conic.specs.declared.Conic.{Conic}
 use Rattle.conic.specs.Chop.{chop_by_rule}
 use Rattle.conic.specs.Level.{ceiling}
 use Rattle.conic_cut.specs.Cut.{room, cut_buffer}
-use Rattle.conic_cut.proofs.Lists.{sets-whole, sets-take}
-use Rattle.conic_cut.proofs.Stores.{flat-length, points-flat, written-length}
+use Rattle.conic_cut.proofs.Lists.{sets_whole, sets-take}
+use Rattle.conic_cut.proofs.Stores.{flat-length, points_flat, written-length}
 use Rattle.date_table.specs.declared.lookup.Check.{Check}
 use Rattle.date_table.specs.declared.lookup.Check.TheVariants as C
 use Rattle.date_table.specs.declared.Made.{Made}
@@ -18,8 +18,8 @@ use Rattle.date_table.specs.declared.Refusal.TheVariants.{LevelTooHigh, BufferTo
 use Rattle.date_table.specs.Answers.{number_of_made, values_of_made}
 use Rattle.date_table.specs.Making.{by_both_axes, taken_of, rounded_of, all_in_range, cut_of, table_room, stored_by, refuse_made, made_answer, made_table, MadeInto}
 use Rattle.date_table.specs.Table.{within, rising, refuse_table, check_of}
-use Rattle.date_table.proofs.Dates.{passed-well, refused_too}
-use Rattle.date_table.proofs.Taken.{rounded-length, within_all}
+use Rattle.date_table.proofs.Dates.{passed_well, refused_too}
+use Rattle.date_table.proofs.Taken.{rounded_length, within_all}
 
 -- ---- the number and the values of an answer
 of_answer : {A : Type 0} (of : Made → A) (deep short far falls : Bool) (n : ℕ)
@@ -61,43 +61,43 @@ module _ (n : ℕ) (c : Conic) (short : Bool) (l : List ℕ) where
   too_short h k = made_into (rw (le-ltb ceiling n h, k)) (rw (le-ltb ceiling n h, k))
 
 -- ---- the points that a cut leaves at the front of a buffer
-pub cut-points : (n s : ℕ) (c : Conic) (l b : List Float) → n ≤ ceiling → room n ≤ length l → b ≡ cut_buffer chop_by_rule n (by_both_axes c) false l → s ≡ 2 ^ n
+pub cut_points : (n s : ℕ) (c : Conic) (l b : List Float) → n ≤ ceiling → room n ≤ length l → b ≡ cut_buffer chop_by_rule n (by_both_axes c) false l → s ≡ 2 ^ n
     → points_of (take (4 * s + 2 - 0) b) ≡ cut_of n c
 unfolding cut_buffer
-cut-points n s c l b low fits e q =
+cut_points n s c l b low fits e q =
     let ps = cut_of n c in
     let stored : cut_buffer chop_by_rule n (by_both_axes c) false l ≡ flat ps ++ drop (room n) l = rw (le-ltb ceiling n low, le-ltb (length l) (room n) fits) in
     let long : length (flat ps) ≡ 4 * s + 2 - 0 = omega (arith, flat-length ps, written-length chop_by_rule n (by_both_axes c)) in
-    ap (λ (m : List Float). points_of (take (4 * s + 2 - 0) m)) (e ∙ stored) ∙ ap points_of (take_at (flat ps) (drop (room n) l) (4 * s + 2 - 0) long) ∙ points-flat ps
+    ap (λ (m : List Float). points_of (take (4 * s + 2 - 0) m)) (e ∙ stored) ∙ ap points_of (take_at (flat ps) (drop (room n) l) (4 * s + 2 - 0) long) ∙ points_flat ps
 
-pub spans-most : (n : ℕ) → n ≤ ceiling → 2 ^ n ≤ 64
-spans-most n h = pow_mono h
+pub spans_most : (n : ℕ) → n ≤ ceiling → 2 ^ n ≤ 64
+spans_most n h = pow_mono h
 
 -- ---- the rest is what the test of the rounded numbers finds
 module _ (n : ℕ) (c : Conic) where
   abbrev pub table : List ℕ
   table = rounded_of (cut_of n c)
 
-  pub table-length : length table ≡ table_room n
-  table-length = rounded-length (cut_of n c) (2 ^ n) (written-length chop_by_rule n (by_both_axes c))
+  pub table_length : length table ≡ table_room n
+  table_length = rounded_length (cut_of n c) (2 ^ n) (written-length chop_by_rule n (by_both_axes c))
 
-  tested-table : {A : Type 0} (refused : Refusal → A) (well : A) → refuse_table table refused well
+  tested_table : {A : Type 0} (refused : Refusal → A) (well : A) → refuse_table table refused well
       ≡ cond (not (all_in_range (taken_of (cut_of n c)))) (refused EntryOutOfRange) (cond (not (rising table)) (refused TableFalls) well)
-  tested-table refused well =
-      let e = table-length in
+  tested_table refused well =
+      let e = table_length in
       let some : length table ≡ 0 → ⊥ = λ z. omega arith in
       let even : length table % 2 ≡ 0 = omega arith in
       rw (ne_eqb (length table) 0 some, eq-eqb (length table % 2) 0 even, within_all (taken_of (cut_of n c)))
 
   module _ (l : List ℕ) (low : n ≤ ceiling) (fits : table_room n ≤ length l) where
     pub tested : {A : Type 0} (refused : Refusal → A) (well : A) → refuse_made n (length l) false c refused well ≡ refuse_table table refused well
-    tested refused well = rw (le-ltb ceiling n low, le-ltb (length l) (table_room n) fits) (sym (tested-table refused well))
+    tested refused well = rw (le-ltb ceiling n low, le-ltb (length l) (table_room n) fits) (sym (tested_table refused well))
 
     pub made : check_of table ≡ C.Passed → (Entries (2 ^ n + 1) ≡ made_answer n (length l) false c) × (table ++ drop (table_room n) l ≡ made_table n c false l)
     unfolding made_answer made_table
     made p = (
-      sym (tested Refused (Entries (2 ^ n + 1)) ∙ passed-well table Refused (Entries (2 ^ n + 1)) p),
-      sym (tested (λ _. l) (table ++ drop (table_room n) l) ∙ passed-well table (λ _. l) (table ++ drop (table_room n) l) p),
+      sym (tested Refused (Entries (2 ^ n + 1)) ∙ passed_well table Refused (Entries (2 ^ n + 1)) p),
+      sym (tested (λ _. l) (table ++ drop (table_room n) l) ∙ passed_well table (λ _. l) (table ++ drop (table_room n) l) p),
     )
 
     pub refused : (why : Refusal) → check_of table ≡ C.Refused why → (Refused why ≡ made_answer n (length l) false c) × (l ≡ made_table n c false l)
@@ -109,11 +109,11 @@ module _ (n : ℕ) (c : Conic) where
 
     -- ---- t are the rounded numbers, found is what their test found, and l₁ is what that left in the buffer
     module _ (t l₁ : List ℕ) (found : Check) (is-table : t ≡ table) (tests : found ≡ check_of t) (leaves : l₁ ≡ stored_by found l t) where
-      pub stored-made : (s : ℕ) → s ≡ 2 ^ n → found ≡ C.Passed → (Entries (s + 1) ≡ made_answer n (length l) false c) × (l₁ ≡ made_table n c false l)
-      stored-made s e told =
+      pub stored_made : (s : ℕ) → s ≡ 2 ^ n → found ≡ C.Passed → (Entries (s + 1) ≡ made_answer n (length l) false c) × (l₁ ≡ made_table n c false l)
+      stored_made s e told =
           let q = made (sym (ap check_of is-table) ∙ sym tests ∙ told) in (
             ap (λ (k : ℕ). Entries (k + 1)) e ∙ q.0,
-            leaves ∙ ap (λ (k : Check). stored_by k l t) told ∙ ap (sets l 0) is-table ∙ sets-whole table l (table_room n) table-length fits ∙ q.1,
+            leaves ∙ ap (λ (k : Check). stored_by k l t) told ∙ ap (sets l 0) is-table ∙ sets_whole table l (table_room n) table_length fits ∙ q.1,
           )
 
       pub stored_refused : (why : Refusal) → found ≡ C.Refused why → (Refused why ≡ made_answer n (length l) false c) × (l₁ ≡ made_table n c false l)

@@ -11,7 +11,7 @@ use Rattle.date_table.specs.Answers.{number_of_refusal, values_of_refusal, numbe
 use Rattle.date_table.specs.Laws.{LaterIsNotEarlier, DatesLieInTheTable, DatesAreInRange, EveryTimeIsDated, NoOtherIsDated, TheLastIsKept}
 use Rattle.date_table.specs.Table.{within, rising, refuse_table, check_of, first_x, first_y, last_x, last_y, date_in, outside, refuse_time, date_of, DatedAt}
 use Rattle.date_table.specs.Whole.{max_entry}
-use Rattle.date_table.proofs.Walk.{and_parts, Good, one, more, good_of, ends_x, walk, walk-low, walk-high, walk_mono, walk-last, date-walk}
+use Rattle.date_table.proofs.Walk.{and_parts, Good, one, more, good_of, ends_x, walk, walk_low, walk_high, walk_mono, walk_last, date_walk}
 
 pub absurd_0 : {A : Type 0} → ◌≡◌ {A = ℕ} 0 1 → A
 absurd_0 z = absurd (omega arith)
@@ -54,9 +54,9 @@ module _ (l : List ℕ) where
       let e = eqb-true (length l % 2) 0 q.1 in
       record { even = e; low = q.2; good = good_of l (eqb-false (length l) 0 q.0) e q.3 }
 
-  pub passed-well : {A : Type 0} (refused : Refusal → A) (well : A) → check_of l ≡ C.Passed → refuse_table l refused well ≡ well
+  pub passed_well : {A : Type 0} (refused : Refusal → A) (well : A) → check_of l ≡ C.Passed → refuse_table l refused well ≡ well
   unfolding check_of
-  passed-well refused well p =
+  passed_well refused well p =
       let q = passes (eqb (length l) 0) (eqb (length l % 2) 0) (within l) (rising l) p in
       rw (q.0, q.1, q.2, q.3)
 
@@ -88,7 +88,7 @@ tells l r d e =
     record { passed = q.0; first = ltb-false r (first_x l) o.0; last = ltb-false (last_x l) r o.1; date = q.2 }
 
 pub walked : (l : List ℕ) (r : ℕ) → check_of l ≡ C.Passed → first_x l ≤ r → r ≤ last_x l → date_in l r ≡ walk l r
-walked l r p a b = date-walk r a b (sound l p).good
+walked l r p a b = date_walk r a b (sound l p).good
 
 told : (l : List ℕ) (r d : ℕ) → Tells l r d → d ≡ walk l r
 told l r d t = t.date ∙ walked l r t.passed t.first t.last
@@ -106,28 +106,28 @@ pub in_table : DatesLieInTheTable
 in_table l r d p =
     let t = tells l r d p in
     let g = (sound l t.passed).good in
-    rw (told l r d t) (walk-low r g, walk-high r g)
+    rw (told l r d t) (walk_low r g, walk_high r g)
 
-last-low : {l : List ℕ} → Good l → within l ≡ true → last_y l ≤ max_entry
+last_low : {l : List ℕ} → Good l → within l ≡ true → last_y l ≤ max_entry
 unfolding within last_y
-last-low (one x y) h = leb-true y max_entry (and_parts (leb y max_entry) true (and_parts (leb x max_entry) (leb y max_entry && true) h).1).0
-last-low (more x y x' y' l xs ys g) h =
+last_low (one x y) h = leb-true y max_entry (and_parts (leb y max_entry) true (and_parts (leb x max_entry) (leb y max_entry && true) h).1).0
+last_low (more x y x' y' l xs ys g) h =
     let rest = within (x' ∷ y' ∷ l) in
-    last-low g (and_parts (leb y max_entry) rest (and_parts (leb x max_entry) (leb y max_entry && rest) h).1).1
+    last_low g (and_parts (leb y max_entry) rest (and_parts (leb x max_entry) (leb y max_entry && rest) h).1).1
 
 -- so that a date is a number that a table may hold
 pub dates_in_range : DatesAreInRange
 dates_in_range l r d p =
     let s = sound l (tells l r d p).passed in
     let b = (in_table l r d p).1 in
-    let c = last-low s.good s.low in
+    let c = last_low s.good s.low in
     omega arith
 
 -- every time from the first x to the last is dated
 pub dated : EveryTimeIsDated
 unfolding date_of
 dated l r p a b =
-    passed-well l D.Refused (cond (outside l r) (D.Refused TimeOutside) (D.Date (date_in l r))) p
+    passed_well l D.Refused (cond (outside l r) (D.Refused TimeOutside) (D.Date (date_in l r))) p
     ∙ rw (le-ltb r (first_x l) a, le-ltb (last_x l) r b)
 
 -- and no other
@@ -135,10 +135,10 @@ pub only : NoOtherIsDated
 only l r d p = let t = tells l r d p in (t.passed, t.first, t.last)
 
 -- at the last x the last y
-pub last-kept : TheLastIsKept
-last-kept l p =
+pub last_kept : TheLastIsKept
+last_kept l p =
     let g = (sound l p).good in
-    dated l (last_x l) p (ends_x g) (omega arith) ∙ ap D.Date (walked l (last_x l) p (ends_x g) (omega arith) ∙ walk-last (last_x l) (omega arith) g)
+    dated l (last_x l) p (ends_x g) (omega arith) ∙ ap D.Date (walked l (last_x l) p (ends_x g) (omega arith) ∙ walk_last (last_x l) (omega arith) g)
 
 -- ---- the number and the values of an answer
 pub of_table : {A : Type 0} {B : Type 0} (of : B → A) (l : List ℕ) (refused : Refusal → B) (well : B)
@@ -166,25 +166,25 @@ of_dated of l r d e =
 pub dated_at : {l : List ℕ} {r : ℕ} {d : Dated} → d ≡ date_of l r → DatedAt l r d
 dated_at {l} {r} {d} e = record { answer = e; number = of_dated number_of_dated l r d e; values = of_dated values_of_dated l r d e }
 
-pub table-refused : (l : List ℕ) (r : ℕ) (why : Refusal) → check_of l ≡ C.Refused why → DatedAt l r (D.Refused why)
+pub table_refused : (l : List ℕ) (r : ℕ) (why : Refusal) → check_of l ≡ C.Refused why → DatedAt l r (D.Refused why)
 unfolding date_of
-table-refused l r why p = dated_at (refused_too l D.Refused (cond (outside l r) (D.Refused TimeOutside) (D.Date (date_in l r))) why p)
+table_refused l r why p = dated_at (refused_too l D.Refused (cond (outside l r) (D.Refused TimeOutside) (D.Date (date_in l r))) why p)
 
 -- ---- what the number 0 tells
-told-zero : (e h w u o : Bool) → 0 ≡ chosen e h w u number_of_refusal (cond o 11 0) → (chosen e h w u C.Refused C.Passed ≡ C.Passed) × (o ≡ false)
-told-zero true h w u o p = absurd (omega arith)
-told-zero false false w u o p = absurd (omega arith)
-told-zero false true false u o p = absurd (omega arith)
-told-zero false true true false o p = absurd (omega arith)
-told-zero false true true true true p = absurd (omega arith)
-told-zero false true true true false p = (refl, refl)
+told_zero : (e h w u o : Bool) → 0 ≡ chosen e h w u number_of_refusal (cond o 11 0) → (chosen e h w u C.Refused C.Passed ≡ C.Passed) × (o ≡ false)
+told_zero true h w u o p = absurd (omega arith)
+told_zero false false w u o p = absurd (omega arith)
+told_zero false true false u o p = absurd (omega arith)
+told_zero false true true false o p = absurd (omega arith)
+told_zero false true true true true p = absurd (omega arith)
+told_zero false true true true false p = (refl, refl)
 
 -- there is a date, and it is the value
-pub answered-zero : (l : List ℕ) (r : ℕ) → 0 ≡ refuse_time l r number_of_refusal 0
+pub answered_zero : (l : List ℕ) (r : ℕ) → 0 ≡ refuse_time l r number_of_refusal 0
     → (date_of l r ≡ D.Date (date_in l r)) × (refuse_time l r values_of_refusal (date_in l r ∷ []) ≡ date_in l r ∷ [])
 unfolding date_of check_of
-answered-zero l r p =
-    let q = told-zero (eqb (length l) 0) (eqb (length l % 2) 0) (within l) (rising l) (outside l r) p in (
-      passed-well l D.Refused (cond (outside l r) (D.Refused TimeOutside) (D.Date (date_in l r))) q.0 ∙ rw q.1,
-      passed-well l values_of_refusal (cond (outside l r) [] (date_in l r ∷ [])) q.0 ∙ rw q.1,
+answered_zero l r p =
+    let q = told_zero (eqb (length l) 0) (eqb (length l % 2) 0) (within l) (rising l) (outside l r) p in (
+      passed_well l D.Refused (cond (outside l r) (D.Refused TimeOutside) (D.Date (date_in l r))) q.0 ∙ rw q.1,
+      passed_well l values_of_refusal (cond (outside l r) [] (date_in l r ∷ [])) q.0 ∙ rw q.1,
     )

@@ -7,7 +7,7 @@ use Rattle.date_table.specs.Laws.{EachAsAlone}
 use Rattle.date_table.specs.All.{first_outside, all_answer, all_times}
 use Rattle.date_table.specs.Table.{within, rising, check_of, date_in}
 use Rattle.date_table.proofs.Dates.{absurd_0, chosen, dated}
-use Rattle.date_table.proofs.Many.{inside_of, none-outside, map_at, all-dated}
+use Rattle.date_table.proofs.Many.{inside_of, none-outside, map_at, all_dated}
 
 told : (e h w u far : Bool) (i : ℕ) → chosen e h w u Refused (cond far (OutsideAt i) Dates) ≡ Dates → (chosen e h w u C.Refused C.Passed ≡ C.Passed) × (far ≡ false)
 told true h w u far i p = absurd_0 (cc)
@@ -24,4 +24,4 @@ as_alone l ts i p h =
     let none = ltb-false (first_outside l ts) (length ts) q.1 in
     let r = get_or ts i 0 in
     let o = inside_of l r (none-outside l ts i none h) in
-    dated l r q.0 o.0 o.1 ∙ ap Date (sym (ap (λ (m : List ℕ). get_or m i 0) (sym (all-dated l ts q.0 none).1) ∙ map_at (date_in l) ts i h))
+    dated l r q.0 o.0 o.1 ∙ ap Date (sym (ap (λ (m : List ℕ). get_or m i 0) (sym (all_dated l ts q.0 none).1) ∙ map_at (date_in l) ts i h))

@@ -6,7 +6,7 @@ use lib.Ieee.{Float, nan, inf, fin, le}
 use lib.Ieee.Bits.{is_true}
 use lib.Ieee.Fits.{and_l, and_r, and_i}
 use lib.Ieee.Scale.{finite}
-use Rattle.float_laws.proofs.Order.{le_trans-float, le_self, or_left}
+use Rattle.float_laws.proofs.Order.{le_trans_float, le_self, or_left}
 use Rattle.point.specs.declared.Point.{Point}
 use Rattle.point.specs.Numbers.{flat}
 use Rattle.conic.specs.declared.Conic.{Conic}
@@ -17,7 +17,7 @@ use Rattle.conic.specs.Level.{ceiling}
 use Rattle.conic.specs.Source.{short_source}
 use Rattle.conic.specs.Rule.{Axis, X, Y, test_along}
 use Rattle.conic_cut.specs.Order.{Steps, ge, AllFiniteCoordinates, first_of, last_of, Premise, InOrder}
-use Rattle.conic_cut.proofs.Order.{cut-in_order}
+use Rattle.conic_cut.proofs.Order.{cut_in_order}
 use Rattle.conic_cut.proofs.Stores.{written-length}
 use Rattle.date_table.specs.declared.lookup.Check.TheVariants as C
 use Rattle.date_table.specs.declared.Made.{Made}
@@ -27,7 +27,7 @@ use Rattle.date_table.specs.Making.{by_both_axes, every_second, taken_of, rounde
 use Rattle.date_table.specs.Table.{rising, check_of, first_x, first_y, last_x, last_y, date_in}
 use Rattle.date_table.specs.Whole.{in_range, whole_of}
 use Rattle.date_table.proofs.Dates.{absurd_0, sound, dated, walked}
-use Rattle.date_table.proofs.Answers.{table, table-length, made}
+use Rattle.date_table.proofs.Answers.{table, table_length, made}
 use Rattle.date_table.proofs.Pass.{is_well}
 use Rattle.date_table.proofs.Taken.{within_all}
 use Rattle.date_table.proofs.Walk.{ends_x, walk_mono}
@@ -41,26 +41,26 @@ in_range-finite (inf true) t = absurd t
 in_range-finite (inf false) t = absurd t
 in_range-finite (fin s m e) t = tt
 
-in_range-between : (a x b : Float) → T (in_range a) → T (in_range b) → T (le a x) → T (le x b) → T (in_range x)
+in_range_between : (a x b : Float) → T (in_range a) → T (in_range b) → T (le a x) → T (le x b) → T (in_range x)
 unfolding in_range
-in_range-between a x b p q low high =
+in_range_between a x b p q low high =
     let zero = fin false 0 (pos 0) in
     let most = fin false 1 (pos 24) in
-    and_i (le zero x) (le x most) (le_trans-float zero a x (and_l (le zero a) (le a most) p) low) (le_trans-float x b most high (and_r (le zero b) (le b most) q))
+    and_i (le zero x) (le x most) (le_trans_float zero a x (and_l (le zero a) (le a most) p) low) (le_trans_float x b most high (and_r (le zero b) (le b most) q))
 
 -- ---- points that rise or fall along k
 module _ (k : Axis) where
   -- the last is not above any where they fall
-  last-low : (p : Point) (l : List Point) → AllFiniteCoordinates (p ∷ l) → Steps ge k (p ∷ l) → T (le (along k (last_of p l)) (along k p))
+  last_low : (p : Point) (l : List Point) → AllFiniteCoordinates (p ∷ l) → Steps ge k (p ∷ l) → T (le (along k (last_of p l)) (along k p))
   unfolding AllFiniteCoordinates Steps last_of
-  last-low p [] f s = le_self (along k p) (f.0 k)
-  last-low p (q ∷ l) f s = le_trans-float (along k (last_of q l)) (along k q) (along k p) (last-low q l f.1 s.1) s.0
+  last_low p [] f s = le_self (along k p) (f.0 k)
+  last_low p (q ∷ l) f s = le_trans_float (along k (last_of q l)) (along k q) (along k p) (last_low q l f.1 s.1) s.0
 
   -- and not below any where they rise
-  last-high : (p : Point) (l : List Point) → AllFiniteCoordinates (p ∷ l) → Steps le k (p ∷ l) → T (le (along k p) (along k (last_of p l)))
+  last_high : (p : Point) (l : List Point) → AllFiniteCoordinates (p ∷ l) → Steps le k (p ∷ l) → T (le (along k p) (along k (last_of p l)))
   unfolding AllFiniteCoordinates Steps last_of
-  last-high p [] f s = le_self (along k p) (f.0 k)
-  last-high p (q ∷ l) f s = le_trans-float (along k p) (along k q) (along k (last_of q l)) s.0 (last-high q l f.1 s.1)
+  last_high p [] f s = le_self (along k p) (f.0 k)
+  last_high p (q ∷ l) f s = le_trans_float (along k p) (along k q) (along k (last_of q l)) s.0 (last_high q l f.1 s.1)
 
   -- points that fall to an end that is not below their start are all level, so that they rise
   level : (p : Point) (l : List Point) → AllFiniteCoordinates (p ∷ l) → T (le (along k p) (along k (last_of p l))) → Steps ge k (p ∷ l) → Steps le k (p ∷ l)
@@ -68,7 +68,7 @@ module _ (k : Axis) where
   level p [] f h s = tt
   level p (q ∷ l) f h s =
       let e = along k (last_of q l) in
-      (le_trans-float (along k p) e (along k q) h (last-low q l f.1 s.1), level q l f.1 (le_trans-float (along k q) (along k p) e s.0 h) s.1)
+      (le_trans_float (along k p) e (along k q) h (last_low q l f.1 s.1), level q l f.1 (le_trans_float (along k q) (along k p) e s.0 h) s.1)
 
 -- ---- a list of an odd number of points whose every second one rises along both axes, all in range
 abbrev InRange : Point → Type 0
@@ -83,9 +83,9 @@ unfolding AllFiniteCoordinates Steps last_of
 run_of p [] e f s a b = end p a
 run_of p (q ∷ []) e f s a b = absurd (omega arith)
 run_of p (q ∷ r ∷ l) e f s a b =
-    let low : (k : Axis) → T (le (along k p) (along k r)) = λ k. le_trans-float (along k p) (along k q) (along k r) (s k).0 (s k).1.0 in
-    let high : (k : Axis) → T (le (along k r) (along k (last_of r l))) = λ k. last-high k r l f.1.1 (s k).1.1 in
-    let here : InRange r = λ k. in_range-between (along k p) (along k r) (along k (last_of r l)) (a k) (b k) (low k) (high k) in
+    let low : (k : Axis) → T (le (along k p) (along k r)) = λ k. le_trans_float (along k p) (along k q) (along k r) (s k).0 (s k).1.0 in
+    let high : (k : Axis) → T (le (along k r) (along k (last_of r l))) = λ k. last_high k r l f.1.1 (s k).1.1 in
+    let here : InRange r = λ k. in_range_between (along k p) (along k r) (along k (last_of r l)) (a k) (b k) (low k) (high k) in
     two p q r l a here low (run_of r l (omega arith) f.1.1 (λ k. (s k).1.1) here b)
 
 -- ---- its table
@@ -130,10 +130,10 @@ made_of (two p q r l a b low run) =
     }
 
 -- ---- the points of the cut of a forward bridge
-exact-both : (k : Axis) → test_along k BothAxes ≡ By.Exact
+exact_both : (k : Axis) → test_along k BothAxes ≡ By.Exact
 unfolding test_along
-exact-both X = refl
-exact-both Y = refl
+exact_both X = refl
+exact_both Y = refl
 
 module _ (c : Conic) (f : Forward c) where
   premise : (k : Axis) → Premise k (by_both_axes c)
@@ -148,8 +148,8 @@ module _ (c : Conic) (f : Forward c) where
         between = or_left (le a b && le b d) (le b a && le d b) (and_i (le a b) (le b d) (f.rises_to k) (f.rises_on k));
       }
 
-  rises-through : (k : Axis) → T (le (along k c.p0) (along k c.p2))
-  rises-through k = le_trans-float (along k c.p0) (along k c.p1) (along k c.p2) (f.rises_to k) (f.rises_on k)
+  rises_through : (k : Axis) → T (le (along k c.p0) (along k c.p2))
+  rises_through k = le_trans_float (along k c.p0) (along k c.p1) (along k c.p2) (f.rises_to k) (f.rises_on k)
 
   -- the table of points that lead in order from the start to the end
   record Led (ps : List Point) : Type 0 where
@@ -167,9 +167,9 @@ module _ (c : Conic) (f : Forward c) where
       let first : p ≡ c.p0 = (o X).first in
       let last : last_of p l ≡ c.p2 = (o X).last in
       let from : (k : Axis) → T (le (along k p) (along k (last_of p l))) =
-      λ k. subst⁻¹ (λ (q : Point). T (le (along k q) (along k (last_of p l)))) first (subst⁻¹ (λ (q : Point). T (le (along k c.p0) (along k q))) last (rises-through k)) in
-      let steps : (k : Axis) → Steps le k (p ∷ l) = λ k. ⊎_elim (λ s. s) (level k p l (o X).all-finite (from k)) (o k).one_way in
-      let run = run_of p l (omega arith) (o X).all-finite steps (subst⁻¹ InRange first f.start) (subst⁻¹ InRange last f.end) in
+      λ k. subst⁻¹ (λ (q : Point). T (le (along k q) (along k (last_of p l)))) first (subst⁻¹ (λ (q : Point). T (le (along k c.p0) (along k q))) last (rises_through k)) in
+      let steps : (k : Axis) → Steps le k (p ∷ l) = λ k. ⊎_elim (λ s. s) (level k p l (o X).all_finite_lem (from k)) (o k).one_way in
+      let run = run_of p l (omega arith) (o X).all_finite_lem steps (subst⁻¹ InRange first f.start) (subst⁻¹ InRange last f.end) in
       let m = made_of run in
       record {
         within = m.within;
@@ -185,21 +185,21 @@ module _ (n : ℕ) (c : Conic) (f : Forward c) where
   abbrev t : List ℕ
   t = table n c
 
-  led-cut : Led c f (cut_of n c)
-  led-cut = led c f (cut_of n c) (omega (arith, written-length chop_by_rule n (by_both_axes c))) (λ k. cut-in_order k n (by_both_axes c) (exact-both k) (premise c f k))
+  led_cut : Led c f (cut_of n c)
+  led_cut = led c f (cut_of n c) (omega (arith, written-length chop_by_rule n (by_both_axes c))) (λ k. cut_in_order k n (by_both_axes c) (exact_both k) (premise c f k))
 
   passes : check_of t ≡ C.Passed
   passes =
-      let e = table-length n c in
+      let e = table_length n c in
       let some : length t ≡ 0 → ⊥ = λ z. omega arith in
-      sym (is_well t some (omega arith) (within_all (taken_of (cut_of n c)) ∙ led-cut.within) led-cut.rises)
+      sym (is_well t some (omega arith) (within_all (taken_of (cut_of n c)) ∙ led_cut.within) led_cut.rises)
 
   dates : DatesThrough c t
   dates = record {
-    first_x_is = led-cut.first_x_is;
-    first_y_is = led-cut.first_y_is;
-    last_x_is = led-cut.last_x_is;
-    last_y_is = led-cut.last_y_is;
+    first_x_is = led_cut.first_x_is;
+    first_y_is = led_cut.first_y_is;
+    last_x_is = led_cut.last_x_is;
+    last_y_is = led_cut.last_y_is;
     runs = ends_x (sound t passes).good;
     dated = λ r a b. dated t r passes a b;
     in_order = λ r s a h b.
@@ -212,16 +212,16 @@ never_refused n c l r l₁ e b low fits f =
     let t = table n c in
     let m = made n c l low fits (passes n c f) in
     let stored : l₁ ≡ t ++ drop (table_room n) l = b ∙ sym m.1 in
-    let there : table_in n l₁ ≡ t = ap (take (table_room n)) stored ∙ take_at t (drop (table_room n) l) (table_room n) (table-length n c) in
-    (e ∙ sym m.0, (subst⁻¹ (DatesThrough c) there (dates n c f), ap (drop (table_room n)) stored ∙ drop_at t (drop (table_room n) l) (table_room n) (table-length n c)))
+    let there : table_in n l₁ ≡ t = ap (take (table_room n)) stored ∙ take_at t (drop (table_room n) l) (table_room n) (table_length n c) in
+    (e ∙ sym m.0, (subst⁻¹ (DatesThrough c) there (dates n c f), ap (drop (table_room n)) stored ∙ drop_at t (drop (table_room n) l) (table_room n) (table_length n c)))
 
 -- with the rest of the contract; and of a lent source
 pub promised : {n : ℕ} {c : Conic} {l : List ℕ} {r : Made} {l₁ : List ℕ} → MadeInto n c false l r l₁ → MadeInto n c false l r l₁ × NeverRefused (Entries (2 ^ n + 1)) n c l r l₁
 promised {n} {c} {l} {r} {l₁} m = (m, never_refused n c l r l₁ m.answer m.table)
 
-pub promised-from : {n : ℕ} {c : Conic} (src : List Float) {l : List ℕ} {r : Made} {l₁ : List ℕ} → MadeInto n c (short_source src) l r l₁
+pub promised_from : {n : ℕ} {c : Conic} (src : List Float) {l : List ℕ} {r : Made} {l₁ : List ℕ} → MadeInto n c (short_source src) l r l₁
     → MadeInto n c (short_source src) l r l₁ × (6 ≤ length src → NeverRefused (Entries (2 ^ n + 1)) n c l r l₁)
-promised-from {n} {c} src {l} {r} {l₁} m = (
+promised_from {n} {c} src {l} {r} {l₁} m = (
   m,
   λ h. never_refused n c l r l₁ (m.answer ∙ ap (λ (b : Bool). made_answer n (length l) b c) (le-ltb (length src) 6 h))
       (m.table ∙ ap (λ (b : Bool). made_table n c b l) (le-ltb (length src) 6 h)),

@@ -5,7 +5,7 @@ use Rattle.date_table.specs.declared.Dated.TheVariants.{Date, Refused}
 use Rattle.date_table.specs.declared.Refusal.TheVariants.{TimeOutside}
 use Rattle.date_table.specs.Search.{Bracket, LastNotAbove}
 use Rattle.date_table.specs.Table.{check_of, first_x, last_x, part_way, outside, date_in, date_of}
-use Rattle.date_table.proofs.Dates.{sound, passed-well, dated, walked}
+use Rattle.date_table.proofs.Dates.{sound, passed_well, dated, walked}
 use Rattle.date_table.proofs.Many.{inside_of}
 use Rattle.date_table.proofs.Places.{good_length, at, first_is}
 
@@ -15,11 +15,11 @@ module _ (l : List ℕ) (r : ℕ) (p : check_of l ≡ Passed) where
     -- where the search begins
     pub start : Bracket l r 0 (length l)
     start = record {
-      low-whole = refl;
-      high-whole = (sound l p).even;
+      low_whole = refl;
+      high_whole = (sound l p).even;
       apart = good_length (sound l p).good;
       there = omega arith;
-      not-above = omega (arith, first_is l);
+      not_above = omega (arith, first_is l);
       above = λ h. absurd (omega arith);
     }
 
@@ -35,21 +35,21 @@ module _ (l : List ℕ) (r : ℕ) (p : check_of l ≡ Passed) where
         let one : i + 1 ≡ suc i = omega arith in
         let two : i + 2 ≡ suc (suc i) = omega arith in
         let three : i + 3 ≡ suc (suc (suc i)) = omega arith in
-        let a = at i b.low-whole b.there (sound l p).good in
+        let a = at i b.low_whole b.there (sound l p).good in
         let date = sym (walked l r p first last) in
-        let short : length l - i < 4 → length l ≤ suc (suc i) = λ h. omega (arith, (sound l p).even, b.low-whole) in
+        let short : length l - i < 4 → length l ≤ suc (suc i) = λ h. omega (arith, (sound l p).even, b.low_whole) in
         let above : 4 ≤ length l - i → r < get_or l (suc (suc i)) 0 = λ h. rw two at (b.above (omega arith)) in
         record {
-          end = λ h. rw one (sym (a.end r (short h) b.not-above) ∙ date);
+          end = λ h. rw one (sym (a.end r (short h) b.not_above) ∙ date);
           next_x = λ h. b.above (omega arith);
           next_y = λ h. rw (three, one) (a.ys (omega arith));
-          span = λ h. rw (three, two, one) (sym (a.span r (omega arith) b.not-above (above h)) ∙ date);
+          span = λ h. rw (three, two, one) (sym (a.span r (omega arith) b.not_above (above h)) ∙ date);
         }
 
   -- ---- the answer
   pub is_outside : outside l r ≡ true → Refused TimeOutside ≡ date_of l r
   unfolding date_of
-  is_outside t = sym (passed-well l Refused (cond (outside l r) (Refused TimeOutside) (Date (date_in l r))) p ∙ rw t)
+  is_outside t = sym (passed_well l Refused (cond (outside l r) (Refused TimeOutside) (Date (date_in l r))) p ∙ rw t)
 
   pub is_date : (d : ℕ) → outside l r ≡ false → d ≡ date_in l r → Date d ≡ date_of l r
   is_date d t e = let q = inside_of l r t in ap Date e ∙ sym (dated l r p q.0 q.1)

@@ -12,8 +12,8 @@ between_start x y x' y' =
     let z : (x - x) * (y' - y) ≡ 0 = (let s : x - x ≡ 0 = omega arith in rw s (omega arith)) in
     rw z (let q = zero-div (x' - x) in omega arith)
 
-pub entries-kept : EntriesAreKept
-entries-kept a b x y x' y' e lt p =
+pub entries_kept : EntriesAreKept
+entries_kept a b x y x' y' e lt p =
     let i = length a in
     let rest = x ∷ y ∷ x' ∷ y' ∷ b in
     let l = a ++ rest in

@@ -9,7 +9,7 @@ use Rattle.date_table.specs.declared.Refusal.{Refusal}
 use Rattle.date_table.specs.All.{first_outside, refuse_times, all_answer, all_times, AllInto}
 use Rattle.date_table.specs.Answers.{number_of_all_dated, values_of_all_dated}
 use Rattle.date_table.specs.Table.{refuse_table, check_of, first_x, last_x, outside, date_in}
-use Rattle.date_table.proofs.Dates.{neither, passed-well, refused_too, of_table, of_cond}
+use Rattle.date_table.proofs.Dates.{neither, passed_well, refused_too, of_table, of_cond}
 use Rattle.date_table.proofs.Pass.{at_front}
 use Rattle.date_table.proofs.Walk.{by_cases}
 
@@ -68,8 +68,8 @@ module _ (f : ℕ → ℕ) (ts : List ℕ) (i : ℕ) where
         sym (at_front i (paste ts 0 (map f ts) i)) ∙ ap (λ (m : List ℕ). get_or m 0 0) whole ∙ at_front i ts
 
     -- its date is stored
-    pub paste-next : (d : ℕ) → d ≡ f (get_or ts i 0) → set (paste ts 0 (map f ts) i) i d ≡ paste ts 0 (map f ts) (i + 1)
-    paste-next d e =
+    pub paste_next : (d : ℕ) → d ≡ f (get_or ts i 0) → set (paste ts 0 (map f ts) i) i d ≡ paste ts 0 (map f ts) (i + 1)
+    paste_next d e =
         let next : suc i ≡ i + 1 = omega arith in
         let there : 0 + i < length ts = omega arith in
         ap (λ (k : ℕ). set (paste ts 0 (map f ts) i) k d) (sym from_start)
@@ -94,16 +94,16 @@ pub all_into : {l ts : List ℕ} {r : AllDated} {ts₁ : List ℕ} → r ≡ all
 all_into {l} {ts} {r} e t = record { answer = e; number = of_all number_of_all_dated l ts r e; values = of_all values_of_all_dated l ts r e; times = t }
 
 module _ (l ts : List ℕ) where
-  pub table-refused : (why : Refusal) → check_of l ≡ C.Refused why → AllInto l ts (Refused why) ts
+  pub table_refused : (why : Refusal) → check_of l ≡ C.Refused why → AllInto l ts (Refused why) ts
   unfolding all_answer all_times
-  table-refused why p = all_into
+  table_refused why p = all_into
       (refused_too l Refused (cond (ltb (first_outside l ts) (length ts)) (OutsideAt (first_outside l ts)) Dates) why p)
       (refused_too l (λ _. ts) (cond (ltb (first_outside l ts) (length ts)) ts (map (date_in l) ts)) why p)
 
   module _ (p : check_of l ≡ C.Passed) where
     well : {A : Type 0} (refused : Refusal → A) (at : ℕ → A) (w : A)
         → refuse_times l ts refused at w ≡ cond (ltb (first_outside l ts) (length ts)) (at (first_outside l ts)) w
-    well refused at w = passed-well l refused (cond (ltb (first_outside l ts) (length ts)) (at (first_outside l ts)) w) p
+    well refused at w = passed_well l refused (cond (ltb (first_outside l ts) (length ts)) (at (first_outside l ts)) w) p
 
     pub one_outside : (i : ℕ) → i ≡ first_outside l ts → i < length ts → (OutsideAt i ≡ all_answer l ts) × (ts ≡ all_times l ts)
     unfolding all_answer all_times
@@ -111,8 +111,8 @@ module _ (l ts : List ℕ) where
         let t = lt-ltb (first_outside l ts) (length ts) (omega arith) in
         (ap OutsideAt e ∙ sym (well Refused OutsideAt Dates ∙ rw t), sym (well (λ _. ts) (λ _. ts) (map (date_in l) ts) ∙ rw t))
 
-    pub all-dated : length ts ≤ first_outside l ts → (Dates ≡ all_answer l ts) × (map (date_in l) ts ≡ all_times l ts)
+    pub all_dated : length ts ≤ first_outside l ts → (Dates ≡ all_answer l ts) × (map (date_in l) ts ≡ all_times l ts)
     unfolding all_answer all_times
-    all-dated h =
+    all_dated h =
         let t = le-ltb (first_outside l ts) (length ts) h in
         (sym (well Refused OutsideAt Dates ∙ rw t), sym (well (λ _. ts) (λ _. ts) (map (date_in l) ts) ∙ rw t))

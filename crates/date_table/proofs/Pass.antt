@@ -1,6 +1,6 @@
 -- The test of a table from the entry at i on, a step and the end. Assumes nothing.
 use Rattle.std.proofs.Common.{◌≡◌, ℕ, ◌+◌, ◌%◌, ◌<◌, ◌≤◌, Bool, true, false, cond, ◌&&◌, ◌||◌, eqb, ltb, leb, List, [], ◌∷◌, length, get_or, drop, sym, refl, ap, ◌∙◌, arith, length-drop, drop_of_length-le, get_or-drop, drop-drop, ltb-false, ltb-true, le-ltb, eq-eqb, ne_eqb, le-leb, leb-true}
-use mathlib.Core.Bool.{and_assoc, and-true}
+use mathlib.Core.Bool.{and_assoc, and_true}
 use borrow.Author.Tests.{lt-leb}
 use lib.Dec.{leb-zero}
 use Rattle.date_table.specs.declared.lookup.Check.TheVariants.{Passed, Refused}
@@ -49,9 +49,9 @@ module _ (i : ℕ) (l : List ℕ) (here : i + 1 < length l) where
   unfolding within
   too_large t = ap within (front i l here) ∙ large a b (within (drop (i + 2) l)) t
 
-  pub none-large : (ltb max_entry a || ltb max_entry b) ≡ false → within (drop i l) ≡ within (drop (i + 2) l)
+  pub none_large : (ltb max_entry a || ltb max_entry b) ≡ false → within (drop i l) ≡ within (drop (i + 2) l)
   unfolding within
-  none-large t = ap within (front i l here) ∙ small a b (within (drop (i + 2) l)) t
+  none_large t = ap within (front i l here) ∙ small a b (within (drop (i + 2) l)) t
 
   pub rises_on : (x y : ℕ) (t : Bool) → ((t && (leb x a && leb y b)) && rising (a ∷ b ∷ drop (i + 2) l)) ≡ (t && rising (x ∷ y ∷ drop i l))
   unfolding rising
@@ -59,18 +59,18 @@ module _ (i : ℕ) (l : List ℕ) (here : i + 1 < length l) where
       and_assoc t (leb x a && leb y b) (rising (a ∷ b ∷ drop (i + 2) l)) ∙ ap (λ (m : List ℕ). t && rising (x ∷ y ∷ m)) (sym (front i l here))
 
 -- ---- its start and its end
-rises-first : (x y : ℕ) (l : List ℕ) → ((leb 0 x && leb 0 y) && rising (x ∷ y ∷ l)) ≡ rising (x ∷ y ∷ l)
-rises-first x y l = rw (leb-zero x, leb-zero y)
+rises_first : (x y : ℕ) (l : List ℕ) → ((leb 0 x && leb 0 y) && rising (x ∷ y ∷ l)) ≡ rising (x ∷ y ∷ l)
+rises_first x y l = rw (leb-zero x, leb-zero y)
 
-pub rises-start : (l : List ℕ) → rising (0 ∷ 0 ∷ l) ≡ rising l
+pub rises_start : (l : List ℕ) → rising (0 ∷ 0 ∷ l) ≡ rising l
 unfolding rising
-rises-start [] = refl
-rises-start (x ∷ []) = refl
-rises-start (x ∷ y ∷ l) = rises-first x y l
+rises_start [] = refl
+rises_start (x ∷ []) = refl
+rises_start (x ∷ y ∷ l) = rises_first x y l
 
-pub rises-end : (i : ℕ) (l : List ℕ) (x y : ℕ) (b : Bool) → length l ≤ i → (b && rising (x ∷ y ∷ drop i l)) ≡ b
+pub rises_end : (i : ℕ) (l : List ℕ) (x y : ℕ) (b : Bool) → length l ≤ i → (b && rising (x ∷ y ∷ drop i l)) ≡ b
 unfolding rising
-rises-end i l x y b h = rw (drop_of_length-le l h) (and-true b)
+rises_end i l x y b h = rw (drop_of_length-le l h) (and_true b)
 
 pub within_end : (i : ℕ) (l : List ℕ) → length l ≤ i → within (drop i l) ≡ true
 unfolding within

@@ -70,26 +70,26 @@ pub whole_out : (x : Float) → in_range x ≡ false → whole_of x ≡ max_entr
 unfolding whole_of
 whole_out x h = rw h
 
-pub whole-most : (x : Float) → in_range x ≡ true → whole_of x ≤ max_entry
-whole-most x h = rw (whole_in x h) (quotient_most (num x) (den x) (inside x h).most)
+pub whole_most : (x : Float) → in_range x ≡ true → whole_of x ≤ max_entry
+whole_most x h = rw (whole_in x h) (quotient_most (num x) (den x) (inside x h).most)
 
 -- a table may hold it exactly where the float is in range
-pub whole-within : (x : Float) → leb (whole_of x) max_entry ≡ in_range x
-whole-within x =
+pub whole_within : (x : Float) → leb (whole_of x) max_entry ≡ in_range x
+whole_within x =
     by_cases (in_range x)
-    (λ t. le-leb (whole_of x) max_entry (whole-most x t) ∙ sym t)
+    (λ t. le-leb (whole_of x) max_entry (whole_most x t) ∙ sym t)
     (λ t. lt-leb (whole_of x) max_entry (let e = whole_out x t in omega arith) ∙ sym t)
 
 -- what it means: the quotient is the largest
-pub rounded-down : RoundedDown
-rounded-down x t =
+pub rounded_down : RoundedDown
+rounded_down x t =
     let q = whole_in x (is_true (in_range x) t) in
     let z = den_pos x in
-    record { not-above = rw q (div-mul-le_self (num x) (den x)); largest = λ k le'. rw q ((le-div_iff_mul-le z).1 le') }
+    record { not_above = rw q (div-mul-le_self (num x) (den x)); largest = λ k le'. rw q ((le-div_iff_mul-le z).1 le') }
 
 -- the number and what it means
 pub rounded : (x : Float) (n : ℕ) → n ≡ whole_of x → (n ≡ whole_of x) × (T (in_range x) → LargestNotAbove x n)
-rounded x n e = (e, λ t. subst⁻¹ (LargestNotAbove x) e (rounded-down x t))
+rounded x n e = (e, λ t. subst⁻¹ (LargestNotAbove x) e (rounded_down x t))
 
 -- ---- a later time is not rounded to an earlier
 crossed : (x y : Float) → in_range x ≡ true → in_range y ≡ true → le x y ≡ true → num x * den y ≤ num y * den x
@@ -110,10 +110,10 @@ crossed (fin true m e) (fin t n d) h k _ =
 
 pub order_kept : RoundingKeepsOrder
 order_kept x y h i t =
-    let a = rounded-down x h in
-    let b = rounded-down y i in
+    let a = rounded_down x h in
+    let b = rounded_down y i in
     let n = whole_of x in
-    let p : n * den x ≤ num x * 1 = omega (arith, a.not-above) in
+    let p : n * den x ≤ num x * 1 = omega (arith, a.not_above) in
     let q : n * den y ≤ num y * 1 =
     through n (num x) (num y) 1 (den x) (den y) (den_pos x) p (crossed x y (is_true (in_range x) h) (is_true (in_range y) i) (is_true (le x y) t)) in
     b.largest n (omega arith)

@@ -10,18 +10,18 @@ use Rattle.conic_cut.proofs.Stores.{flat-length}
 use Rattle.date_table.specs.Making.{every_second, taken_of, rounded_of, all_in_range}
 use Rattle.date_table.specs.Table.{within}
 use Rattle.date_table.specs.Whole.{max_entry, in_range, whole_of}
-use Rattle.date_table.proofs.Rounding.{whole-within}
+use Rattle.date_table.proofs.Rounding.{whole_within}
 
 -- ---- how many they are
-second-length : (ps : List Point) (n : ℕ) → length ps ≡ 2 * n + 1 → length (every_second ps) ≡ n + 1
+second_length : (ps : List Point) (n : ℕ) → length ps ≡ 2 * n + 1 → length (every_second ps) ≡ n + 1
 unfolding every_second
-second-length [] n e = absurd (omega arith)
-second-length (p ∷ []) n e = omega arith
-second-length (p ∷ q ∷ ps) zero e = absurd (omega arith)
-second-length (p ∷ q ∷ ps) (suc n) e = omega (arith, second-length ps n (omega arith))
+second_length [] n e = absurd (omega arith)
+second_length (p ∷ []) n e = omega arith
+second_length (p ∷ q ∷ ps) zero e = absurd (omega arith)
+second_length (p ∷ q ∷ ps) (suc n) e = omega (arith, second_length ps n (omega arith))
 
-pub rounded-length : (ps : List Point) (n : ℕ) → length ps ≡ 2 * n + 1 → length (rounded_of ps) ≡ 2 * (n + 1)
-rounded-length ps n e = length-map (taken_of ps) whole_of ∙ flat-length (every_second ps) ∙ ap (λ (k : ℕ). 2 * k) (second-length ps n e)
+pub rounded_length : (ps : List Point) (n : ℕ) → length ps ≡ 2 * n + 1 → length (rounded_of ps) ≡ 2 * (n + 1)
+rounded_length ps n e = length-map (taken_of ps) whole_of ∙ flat-length (every_second ps) ∙ ap (λ (k : ℕ). 2 * k) (second_length ps n e)
 
 -- ---- what is left to round from the number i on
 abbrev pub left : ℕ → List Float → List ℕ
@@ -38,11 +38,11 @@ front (x ∷ y ∷ z ∷ w ∷ l) h = refl
 at_front : (i : ℕ) (l : List Float) → get_or (drop i l) 0 nan ≡ get_or l i nan
 at_front i l = let z : i + 0 ≡ i = omega arith in get_or-drop i l 0 nan ∙ ap (λ (k : ℕ). get_or l k nan) z
 
-pub left-more : (i : ℕ) (l : List Float) → i + 1 < length l → left i l ≡ whole_of (get_or l i nan) ∷ whole_of (get_or l (i + 1) nan) ∷ left (i + 4) l
-left-more i l h = front (drop i l) (simp length-drop (omega arith)) ∙ rw (at_front, get_or-drop, drop-drop)
+pub left_more : (i : ℕ) (l : List Float) → i + 1 < length l → left i l ≡ whole_of (get_or l i nan) ∷ whole_of (get_or l (i + 1) nan) ∷ left (i + 4) l
+left_more i l h = front (drop i l) (simp length-drop (omega arith)) ∙ rw (at_front, get_or-drop, drop-drop)
 
 pub left_longer : (i : ℕ) (l : List Float) → i + 1 < length l → length (left i l) ≡ 2 + length (left (i + 4) l)
-left_longer i l h = ap length (left-more i l h) ∙ omega arith
+left_longer i l h = ap length (left_more i l h) ∙ omega arith
 
 short : (l : List Float) → length l ≤ 1 → rounded_of (points_of l) ≡ []
 unfolding every_second flat points_of
@@ -50,8 +50,8 @@ short [] h = refl
 short (x ∷ []) h = refl
 short (x ∷ y ∷ l) h = absurd (omega arith)
 
-pub left-none : (i : ℕ) (l : List Float) → length l ≤ i + 1 → left i l ≡ []
-left-none i l h = short (drop i l) (simp length-drop (omega arith))
+pub left_none : (i : ℕ) (l : List Float) → length l ≤ i + 1 → left i l ≡ []
+left_none i l h = short (drop i l) (simp length-drop (omega arith))
 
 -- the entry at t is stored, and then what is left
 pub store-more : (i t : ℕ) (l : List Float) (out : List ℕ) → i + 1 < length l
@@ -59,10 +59,10 @@ pub store-more : (i t : ℕ) (l : List Float) (out : List ℕ) → i + 1 < lengt
 store-more i t l out h =
     let one : t + 1 ≡ suc t = omega arith in
     let two : t + 2 ≡ suc (suc t) = omega arith in
-    rw (left-more i l h, two, one)
+    rw (left_more i l h, two, one)
 
 -- ---- a table may hold them exactly where the coordinates are in range
 pub within_all : (l : List Float) → within (map whole_of l) ≡ all_in_range l
 unfolding within all_in_range
 within_all [] = refl
-within_all (x ∷ l) = rw (whole-within x, within_all l)
+within_all (x ∷ l) = rw (whole_within x, within_all l)

@@ -73,17 +73,17 @@ ends_y (one x y) = omega arith
 ends_y (more x y x' y' l h k g) = let p = ends_y g in omega arith
 
 -- ---- the dates of the walk lie in the table
-pub walk-low : {l : List ℕ} (r : ℕ) → Good l → first_y l ≤ walk l r
+pub walk_low : {l : List ℕ} (r : ℕ) → Good l → first_y l ≤ walk l r
 unfolding first_y walk
-walk-low r (one x y) = omega arith
-walk-low r (more x y x' y' l h k g) =
-    by_cases (leb x' r) (λ t. rw t (let p = walk-low r g in omega arith)) (λ t. rw t (omega arith))
+walk_low r (one x y) = omega arith
+walk_low r (more x y x' y' l h k g) =
+    by_cases (leb x' r) (λ t. rw t (let p = walk_low r g in omega arith)) (λ t. rw t (omega arith))
 
-pub walk-high : {l : List ℕ} (r : ℕ) → Good l → walk l r ≤ last_y l
+pub walk_high : {l : List ℕ} (r : ℕ) → Good l → walk l r ≤ last_y l
 unfolding first_y last_y walk
-walk-high r (one x y) = omega arith
-walk-high r (more x y x' y' l h k g) =
-    by_cases (leb x' r) (λ t. rw t (walk-high r g))
+walk_high r (one x y) = omega arith
+walk_high r (more x y x' y' l h k g) =
+    by_cases (leb x' r) (λ t. rw t (walk_high r g))
     (λ t. rw t (let p = ends_y g in let q = between_le r x y x' y' (leb-false x' r t) k in omega arith))
 
 -- ---- and rise
@@ -94,24 +94,24 @@ walk_mono r s le (more x y x' y' l h k g) =
     by_cases (leb x' r)
     (λ t. let u : leb x' s ≡ true = le-leb x' s (omega (arith, leb-true x' r t)) in rw (t, u) (walk_mono r s le g))
     (λ t. by_cases (leb x' s)
-    (λ u. rw (t, u) (let p = walk-low s g in let q = between_le r x y x' y' (leb-false x' r t) k in omega arith))
+    (λ u. rw (t, u) (let p = walk_low s g in let q = between_le r x y x' y' (leb-false x' r t) k in omega arith))
     (λ u. rw (t, u) (between_mono r s x y x' y' le)))
 
 -- ---- the walk is the date of the specs
 -- at the last x
-pub walk-last : {l : List ℕ} (r : ℕ) → last_x l ≤ r → Good l → walk l r ≡ last_y l
+pub walk_last : {l : List ℕ} (r : ℕ) → last_x l ≤ r → Good l → walk l r ≡ last_y l
 unfolding first_x last_x last_y walk
-walk-last r le (one x y) = refl
-walk-last r le (more x y x' y' l h k g) =
+walk_last r le (one x y) = refl
+walk_last r le (more x y x' y' l h k g) =
     let t : leb x' r ≡ true = (let p = ends_x g in le-leb x' r (omega arith)) in
-    rw t (walk-last r le g)
+    rw t (walk_last r le g)
 
 -- no x is at r or below
-before-all : {l : List ℕ} (r : ℕ) → r < first_x l → Good l → last_from r l ≡ []
+before_all : {l : List ℕ} (r : ℕ) → r < first_x l → Good l → last_from r l ≡ []
 unfolding first_x last_from or_else
-before-all r lt (one x y) = rw (lt-leb x r lt)
-before-all r lt (more x y x' y' l h k g) =
-    let e : last_from r (x' ∷ y' ∷ l) ≡ [] = before-all r (omega arith) g in
+before_all r lt (one x y) = rw (lt-leb x r lt)
+before_all r lt (more x y x' y' l h k g) =
+    let e : last_from r (x' ∷ y' ∷ l) ≡ [] = before_all r (omega arith) g in
     rw (e, lt-leb x r lt)
 
 or_more : (a : List ℕ) (n : ℕ) (b m : List ℕ) → or_else (or_else a (n ∷ b)) m ≡ or_else a (n ∷ b)
@@ -125,19 +125,19 @@ unfolding first_x last_from or_else
 found r m le (one x y) = rw (le-leb x r le)
 found r m le (more x y x' y' l h k g) = rw (le-leb x r le) (or_more (last_from r (x' ∷ y' ∷ l)) x (y ∷ x' ∷ y' ∷ l) m)
 
-walk-span : {l : List ℕ} (r : ℕ) → first_x l ≤ r → r < last_x l → Good l → span_at (last_from r l) r ≡ walk l r
+walk_span : {l : List ℕ} (r : ℕ) → first_x l ≤ r → r < last_x l → Good l → span_at (last_from r l) r ≡ walk l r
 unfolding first_x last_x last_from span_at or_else walk
-walk-span r le lt (one x y) = absurd (omega arith)
-walk-span r le lt (more x y x' y' l h k g) =
+walk_span r le lt (one x y) = absurd (omega arith)
+walk_span r le lt (more x y x' y' l h k g) =
     by_cases (leb x' r)
     (λ t.
     let on : walk (x ∷ y ∷ x' ∷ y' ∷ l) r ≡ walk (x' ∷ y' ∷ l) r = rw t in
-    ap (λ (m : List ℕ). span_at m r) (found r (cond (leb x r) (x ∷ y ∷ x' ∷ y' ∷ l) []) (leb-true x' r t) g) ∙ walk-span r (leb-true x' r t) lt g ∙ sym on)
-    (λ t. let e : last_from r (x' ∷ y' ∷ l) ≡ [] = before-all r (leb-false x' r t) g in rw (e, t, le-leb x r le))
+    ap (λ (m : List ℕ). span_at m r) (found r (cond (leb x r) (x ∷ y ∷ x' ∷ y' ∷ l) []) (leb-true x' r t) g) ∙ walk_span r (leb-true x' r t) lt g ∙ sym on)
+    (λ t. let e : last_from r (x' ∷ y' ∷ l) ≡ [] = before_all r (leb-false x' r t) g in rw (e, t, le-leb x r le))
 
-pub date-walk : {l : List ℕ} (r : ℕ) → first_x l ≤ r → r ≤ last_x l → Good l → date_in l r ≡ walk l r
+pub date_walk : {l : List ℕ} (r : ℕ) → first_x l ≤ r → r ≤ last_x l → Good l → date_in l r ≡ walk l r
 unfolding date_in
-date-walk {l} r le lt g =
+date_walk {l} r le lt g =
     by_cases (eqb r (last_x l))
-    (λ t. rw t (let e = eqb-true r (last_x l) t in sym (walk-last r (omega arith) g)))
-    (λ t. rw t (walk-span r le (let e = eqb-false r (last_x l) t in omega arith) g))
+    (λ t. rw t (let e = eqb-true r (last_x l) t in sym (walk_last r (omega arith) g)))
+    (λ t. rw t (walk_span r le (let e = eqb-false r (last_x l) t in omega arith) g))

@@ -3,11 +3,11 @@ use Rattle.std.specs.Prelude.{◌≡◌, ℕ, ◌+◌, ◌%◌, ◌<◌, ◌≤�
 
 -- the entry at low has an x not above r, and that at high, if there is one, has an x above
 pub record Bracket (l : List ℕ) (r low high : ℕ) : Type 0 where
-  pub low-whole : low % 2 ≡ 0
-  pub high-whole : high % 2 ≡ 0
+  pub low_whole : low % 2 ≡ 0
+  pub high_whole : high % 2 ≡ 0
   pub apart : low + 2 ≤ high
   pub there : high ≤ length l
-  pub not-above : slice_index_or l low 0 ≤ r
+  pub not_above : slice_index_or l low 0 ≤ r
   pub above : high < length l → r < slice_index l high
 
 -- so that the entry at i is the last with an x not above r, where the xs rise

@@ -15,7 +15,7 @@ in_range x = le (fin false 0 (pos 0)) x && le x (fin false 1 (pos 24))
 
 -- for x not below 0: among the whole numbers that are not above x, n is the largest
 pub record LargestNotAbove (x : Float) (n : ℕ) : Type 0 where
-  pub not-above : n * den x ≤ num x
+  pub not_above : n * den x ≤ num x
   pub largest : (k : ℕ) → k * den x ≤ num x → k ≤ n
 
 -- x rounded down; of one that is not in range, a number that no table may hold

@@ -15,7 +15,7 @@ use lib.Ieee.Exact.{HasValue, odd_sign}
 use Rattle.float_ground.specs.declared.parts.Parts.{Parts}
 use Rattle.float_ground.specs.Parts.{Normal, Stands, Is}
 use Rattle.float_laws.proofs.Patterns.{plain-bits, twice_hid}
-use Rattle.float_laws.proofs.Values.{same-value}
+use Rattle.float_laws.proofs.Values.{same_value}
 
 -- ---- of w places, z is m's leading zeros but d: the shift that brings its leading digit to 2 ^ p, and none of its digits is lost
 
@@ -44,7 +44,7 @@ shift w d p m z W M h Z =
     go : (l : ℕ) → count_leading_zeros w m ≡ l → (t : ℕ) × (l + suc t ≡ w) × (2 ^ t ≤ m) × (m < 2 ^ suc t) → Shift w d p m z
     go l e r =
         let t = r.0 in
-        let low-enough : t < p = pow_lt_back t p (lt_of_le_of_lt r.2 h) in
+        let low_enough : t < p = pow_lt_back t p (lt_of_le_of_lt r.2 h) in
         let sum : t + z ≡ p = omega (arith, r.1, e, Z) in
         let next : suc t + z ≡ suc p = omega arith in
         record {
@@ -104,13 +104,13 @@ shifted f m j =
 stands_by : (f : Format) (x : Float) (s : Bool) (m j : ℕ) (n : Parts) → HasValue x s (m * 2 ^ j) (2 ^ low f) → m < 2 ^ prec f →
     Normal s m (j + (1128 - low f)) n → Stands f n × Is x n
 stands_by f x s m j n v few N = (
-  record { tidy = N.tidy; clear = N.clear (prec f) (few-digits f) few; least = omega (arith, N.least) },
-  rw (N.sign, N.value) (same-value x s (m * 2 ^ j) (2 ^ low f) (m * 2 ^ (j + (1128 - low f))) (2 ^ 1128) (pow_pos (low f)) (shifted f m j) v),
+  record { tidy = N.tidy; clear = N.clear (prec f) (few_digits f) few; least = omega (arith, N.least) },
+  rw (N.sign, N.value) (same_value x s (m * 2 ^ j) (2 ^ low f) (m * 2 ^ (j + (1128 - low f))) (2 ^ 1128) (pow_pos (low f)) (shifted f m j) v),
 )
   where
-    few-digits : (f : Format) → prec f ≤ 53
-    few-digits binary32 = lit≤ tt
-    few-digits binary64 = lit≤ tt
+    few_digits : (f : Format) → prec f ≤ 53
+    few_digits binary32 = lit≤ tt
+    few_digits binary64 = lit≤ tt
 
 -- ---- what `of_fields` hands to `normal`, and what it answers
 
@@ -120,26 +120,26 @@ pub record Room (m j lowest : ℕ) : Type 0 where
   pub at_least : 54 ≤ lowest
   pub most : j + lowest ≤ 2100
 
-pub room-high : (f : Format) (x t : ℕ) → x ≤ ones f → t < hid f → Room (t + hid f) (x - 1) (1128 - low f)
-room-high binary32 x t h g = record { some = omega arith; few = omega arith; at_least = omega arith; most = omega arith }
-room-high binary64 x t h g = record { some = omega arith; few = omega arith; at_least = omega arith; most = omega arith }
+pub room_high : (f : Format) (x t : ℕ) → x ≤ ones f → t < hid f → Room (t + hid f) (x - 1) (1128 - low f)
+room_high binary32 x t h g = record { some = omega arith; few = omega arith; at_least = omega arith; most = omega arith }
+room_high binary64 x t h g = record { some = omega arith; few = omega arith; at_least = omega arith; most = omega arith }
 
-pub room-low : (f : Format) (t : ℕ) → 0 < t → t < hid f → Room t 0 (1128 - low f)
-room-low binary32 t p g = record { some = p; few = omega arith; at_least = omega arith; most = omega arith }
-room-low binary64 t p g = record { some = p; few = omega arith; at_least = omega arith; most = omega arith }
+pub room_low : (f : Format) (t : ℕ) → 0 < t → t < hid f → Room t 0 (1128 - low f)
+room_low binary32 t p g = record { some = p; few = omega arith; at_least = omega arith; most = omega arith }
+room_low binary64 t p g = record { some = p; few = omega arith; at_least = omega arith; most = omega arith }
 
-pub stands-high : (f : Format) (s : Bool) (x t : ℕ) (n : Parts) → 0 < x → (x ≡ ones f → ⊥) → t < hid f →
+pub stands_high : (f : Format) (s : Bool) (x t : ℕ) (n : Parts) → 0 < x → (x ≡ ones f → ⊥) → t < hid f →
     Normal s (t + hid f) (x - 1 + (1128 - low f)) n → Stands f n × Is (of_fields f s x t) n
-stands-high f s x t n p o g N =
+stands_high f s x t n p o g N =
     stands_by f (of_fields f s x t) s (t + hid f) (x - 1) n (fields_high f s x t p o)
     (lt_of_lt_of_le (more t (hid f) g) (le_of_eq (sym (twice_hid f)))) N
   where
     more : (t h : ℕ) → t < h → t + h < h + h
     more t h l = omega arith
 
-pub stands-low : (f : Format) (s : Bool) (x t : ℕ) (n : Parts) → x ≤ 0 → t < hid f → Normal s t (0 + (1128 - low f)) n →
+pub stands_low : (f : Format) (s : Bool) (x t : ℕ) (n : Parts) → x ≤ 0 → t < hid f → Normal s t (0 + (1128 - low f)) n →
     Stands f n × Is (of_fields f s x t) n
-stands-low f s x t n z g N =
+stands_low f s x t n z g N =
     stands_by f (of_fields f s x t) s t 0 n (fields_low f s x t z) (lt_of_lt_of_le (more t (hid f) g) (le_of_eq (sym (twice_hid f)))) N
   where
     more : (t h : ℕ) → t < h → t < h + h

@@ -16,7 +16,7 @@ use Rattle.float_ground.specs.declared.parts.Apart.TheVariants.{Nan, Infinite, Z
 use Rattle.float_ground.specs.declared.pack.Pattern.TheVariants.{Nothing, Bits}
 use Rattle.float_ground.specs.Parts.{TidyApart, TakenApart, Packed, Plain, RoundedTo}
 use Rattle.float_laws.specs.Narrow.{round_to}
-use Rattle.float_laws.proofs.Patterns.{plain-pattern}
+use Rattle.float_laws.proofs.Patterns.{plain_pattern}
 use Rattle.float_laws.proofs.Sign.{infinite}
 
 -- ---- by a value
@@ -30,7 +30,7 @@ round_to_val f (fin t m e) s a c C h = round_same f t (m * up e) (down e) a c (d
 -- ---- the patterns
 
 pub plain : (f : Format) (s : Bool) (r : ℕ) → r ≤ ones f * hid f → Plain f (Bits (cond s (top f) 0 + r))
-plain f s r h = (plain-pattern f s r h, room f s h)
+plain f s r h = (plain_pattern f s r h, room f s h)
   where
     room : (f : Format) (s : Bool) → r ≤ ones f * hid f → cond s (top f) 0 + r < 2 * top f
     room binary32 true h = omega arith
@@ -55,19 +55,19 @@ round-zero binary64 false = refl
 
 -- ---- rounding
 
-pub rounded-nan : (f : Format) → RoundedTo f Nan Nothing
+pub rounded_nan : (f : Format) → RoundedTo f Nan Nothing
 unfolding round_to
-rounded-nan f = record { plain = tt; is = λ g x e. sym (ap (round_to f) e) }
+rounded_nan f = record { plain = tt; is = λ g x e. sym (ap (round_to f) e) }
 
-pub rounded-infinite : (f : Format) (s : Bool) → RoundedTo f (Infinite s) (Bits (cond s (top f) 0 + ones f * hid f))
+pub rounded_infinite : (f : Format) (s : Bool) → RoundedTo f (Infinite s) (Bits (cond s (top f) 0 + ones f * hid f))
 unfolding round_to
-rounded-infinite f s = record { plain = plain f s (ones f * hid f) (le_refl (ones f * hid f)); is = λ g x e. infinite f s ∙ sym (ap (round_to f) e) }
+rounded_infinite f s = record { plain = plain f s (ones f * hid f) (le_refl (ones f * hid f)); is = λ g x e. infinite f s ∙ sym (ap (round_to f) e) }
 
-pub rounded-zero : (f : Format) (s : Bool) → RoundedTo f (Zero s) (Bits (cond s (top f) 0 + 0))
-rounded-zero f s = record { plain = plain f s 0 zero-le; is = λ g x e. zero_bits f s ∙ sym (ap (round_to f) e ∙ round-zero f s) }
+pub rounded_zero : (f : Format) (s : Bool) → RoundedTo f (Zero s) (Bits (cond s (top f) 0 + 0))
+rounded_zero f s = record { plain = plain f s 0 zero-le; is = λ g x e. zero_bits f s ∙ sym (ap (round_to f) e ∙ round-zero f s) }
 
-pub rounded-number : (f : Format) (n : Parts) (r : ℕ) → Packed f n r → RoundedTo f (Number n) (Bits (cond n.negative (top f) 0 + r))
-rounded-number f n r p =
+pub rounded_number : (f : Format) (n : Parts) (r : ℕ) → Packed f n r → RoundedTo f (Number n) (Bits (cond n.negative (top f) 0 + r))
+rounded_number f n r p =
     record {
       plain = plain f n.negative r p.most;
       is = λ g x t. p.is n.negative ∙ sym (round_to_val f x n.negative (n.significand * 2 ^ n.exponent) (2 ^ 1128) (pow_pos 1128) t.1);
@@ -75,8 +75,8 @@ rounded-number f n r p =
 
 -- ---- what a call hands on
 
-pub tidy-apart : (f : Format) (x : Float) (a : Apart) → TakenApart f x a → TidyApart a
-tidy-apart f x Nan t = tt
-tidy-apart f x (Infinite s) t = tt
-tidy-apart f x (Zero s) t = tt
-tidy-apart f x (Number n) t = t.0.tidy
+pub tidy_apart : (f : Format) (x : Float) (a : Apart) → TakenApart f x a → TidyApart a
+tidy_apart f x Nan t = tt
+tidy_apart f x (Infinite s) t = tt
+tidy_apart f x (Zero s) t = tt
+tidy_apart f x (Number n) t = t.0.tidy

@@ -8,7 +8,7 @@ use lib.Ieee.{Float, nan, inf, fin, binary32, hid, ones, top, eq, is_nan, of_bit
 use lib.Ieee.Bits.{nan_bits_is, to_bits-of_bits}
 use lib.Ieee.Scale.{finite}
 use Rattle.float_laws.specs.Narrow.{round_to, narrow_of, kept}
-use Rattle.float_laws.proofs.Kept.{kept_is_left, left_is-kept}
+use Rattle.float_laws.proofs.Kept.{kept_is_left, left_is_kept}
 use Rattle.float_laws.proofs.Sign.{infinite}
 use Rattle.float_ground.specs.declared.narrowing.Narrowed.{Narrowed}
 use Rattle.float_ground.specs.declared.narrowing.Narrowed.TheVariants.{Exact, Rounded, ToInfinity}
@@ -40,31 +40,31 @@ to_infinity x e k f = rw (k, lost_finite x k, ← e, f)
 
 -- ---- which values are kept
 
-pub nan-kept : (x : Float) → x ≡ nan → kept x ≡ true
+pub nan_kept : (x : Float) → x ≡ nan → kept x ≡ true
 unfolding kept is_nan
-nan-kept x e = rw e
+nan_kept x e = rw e
 
-pub infinity-kept : (x : Float) (s : Bool) → x ≡ inf s → kept x ≡ true
+pub infinity_kept : (x : Float) (s : Bool) → x ≡ inf s → kept x ≡ true
 unfolding kept is_nan eq round_to
-infinity-kept x true e = rw e
-infinity-kept x false e = rw e
+infinity_kept x true e = rw e
+infinity_kept x false e = rw e
 
 -- what is no NaN by the comparison
-pub number-kept : (x : Float) {r : Float} (b : Bool) → T (not (is_nan x)) → r ≡ narrow_of x → eq r x ≡ b → kept x ≡ b
+pub number_kept : (x : Float) {r : Float} (b : Bool) → T (not (is_nan x)) → r ≡ narrow_of x → eq r x ≡ b → kept x ≡ b
 unfolding kept is_nan
-number-kept nan b h e k = absurd h
-number-kept (inf s) b h e k = rw (← e) k
-number-kept (fin s m d) b h e k = rw (← e) k
+number_kept nan b h e k = absurd h
+number_kept (inf s) b h e k = rw (← e) k
+number_kept (fin s m d) b h e k = rw (← e) k
 
 -- ---- which patterns are those of infinities
 
-pub infinite-rest : (s : Bool) (rest : ℕ) → rest ≡ 0x7f80_0000 → finite (of_bits binary32 (cond s (top binary32) 0 + rest)) ≡ false
-infinite-rest s rest e = rw (e, infinite binary32 s)
+pub infinite_rest : (s : Bool) (rest : ℕ) → rest ≡ 0x7f80_0000 → finite (of_bits binary32 (cond s (top binary32) 0 + rest)) ≡ false
+infinite_rest s rest e = rw (e, infinite binary32 s)
 
-pub finite-rest : (s : Bool) (rest : ℕ) → rest ≤ ones binary32 * hid binary32 → (rest ≡ 0x7f80_0000 → ⊥) →
+pub finite_rest : (s : Bool) (rest : ℕ) → rest ≤ ones binary32 * hid binary32 → (rest ≡ 0x7f80_0000 → ⊥) →
     finite (of_bits binary32 (cond s (top binary32) 0 + rest)) ≡ true
 unfolding is_nan to_bits
-finite-rest s rest h e =
+finite_rest s rest h e =
     let P = plain binary32 s rest h in
     let b = cond s (top binary32) 0 + rest in
     let N = subst T (ap not (nan_bits_is binary32 b)) P.0 in
@@ -83,9 +83,9 @@ finite-rest s rest h e =
 
 -- ---- the laws
 
-pub same-value : SameValue
+pub same_value : SameValue
 unfolding narrowed_of
-same-value x = go (kept x) (finite x && not (finite (narrow_of x)))
+same_value x = go (kept x) (finite x && not (finite (narrow_of x)))
   where
     go : (k i : Bool) → value_of (cond k (Exact (narrow_of x)) (cond i (ToInfinity (narrow_of x)) (Rounded (narrow_of x)))) ≡ narrow_of x
     go true i = refl
@@ -94,7 +94,7 @@ same-value x = go (kept x) (finite x && not (finite (narrow_of x)))
 
 -- what a call of `narrow` carries
 pub carried : (x : Float) {n : Narrowed} → n ≡ narrowed_of x → value_of n ≡ narrow_of x
-carried x e = ap value_of e ∙ same-value x
+carried x e = ap value_of e ∙ same_value x
 
 pub nothing_lost : NothingLost
 unfolding narrowed_of
@@ -114,15 +114,15 @@ told x e = ap lost_in e ∙ ap not (nothing_lost x)
 
 pub given_is_exact : GivenIsExact
 unfolding round_to
-given_is_exact = (λ s. sym (exact (inf s) refl (infinity-kept (inf s) s refl)), sym (exact nan refl (nan-kept nan refl)))
+given_is_exact = (λ s. sym (exact (inf s) refl (infinity_kept (inf s) s refl)), sym (exact nan refl (nan_kept nan refl)))
 
 pub tiny_negative : TinyNegative
 unfolding narrowed_of kept round_to is_nan of_bits eq
 tiny_negative = refl
 
-exact-kept : (x r : Float) → narrowed_of x ≡ Exact r → kept x ≡ true
-exact-kept x r e = sym (nothing_lost x) ∙ ap (λ (n : Narrowed). eqb (loss_of n) 0) e
+exact_kept : (x r : Float) → narrowed_of x ≡ Exact r → kept x ≡ true
+exact_kept x r e = sym (nothing_lost x) ∙ ap (λ (n : Narrowed). eqb (loss_of n) 0) e
 
 pub exact_where_kept : ExactWhereKept
 exact_where_kept x F =
-    (λ r e. sym (ap value_of e) ∙ same-value x ∙ kept_is_left x F (exact-kept x r e), λ e. sym (exact x (sym e) (left_is-kept x e)))
+    (λ r e. sym (ap value_of e) ∙ same_value x ∙ kept_is_left x F (exact_kept x r e), λ e. sym (exact x (sym e) (left_is_kept x e)))

@@ -11,21 +11,21 @@ use lib.Ieee.Exact.{HasValue}
 use lib.Ieee.Nearest.{closest}
 use Rattle.float_laws.specs.Narrow.{narrow_of, round_to}
 use Rattle.float_laws.proofs.Sign.{infinite}
-use Rattle.float_laws.proofs.Rounding.{rounds, units-over, shift-closest}
+use Rattle.float_laws.proofs.Rounding.{rounds, units_over, shift_closest}
 use Rattle.float_laws.proofs.Patterns.{packs}
-use Rattle.float_laws.proofs.Values.{same-value}
+use Rattle.float_laws.proofs.Values.{same_value}
 use Rattle.float_ground.specs.declared.parts.Parts.{Parts}
 use Rattle.float_ground.specs.Parts.{Normal, Packed, NarrowedTo}
 use Rattle.float_ground.proofs.Apart.{shifted, fields_zero, fields_low, fields_high, fields_infinite}
-use Rattle.float_ground.proofs.Converting.{round_to_val, rounded-zero}
+use Rattle.float_ground.proofs.Converting.{round_to_val, rounded_zero}
 use Rattle.float_ground.proofs.Packing.{closest_ge, closest_le}
 
 -- a whole number of weights of the field goes past the digits that are dropped
 past : (k m : ℕ) → k * 2 ^ 23 + closest m (2 ^ 29) ≡ closest (k * 2 ^ 52 + m) (2 ^ 29)
 past k m =
     let same : m / 2 ^ 29 % 2 ≡ (k * 2 ^ 52 + m) / 2 ^ 29 % 2 = omega arith in
-    ap (λ (q : ℕ). k * 2 ^ 23 + q) (sym (shift-closest m 28)) ∙ added k m (m / 2 ^ 29 % 2)
-    ∙ ap (λ (u : ℕ). (k * 2 ^ 52 + m + (2 ^ 28 - 1) + u) / 2 ^ 29) same ∙ shift-closest (k * 2 ^ 52 + m) 28
+    ap (λ (q : ℕ). k * 2 ^ 23 + q) (sym (shift_closest m 28)) ∙ added k m (m / 2 ^ 29 % 2)
+    ∙ ap (λ (u : ℕ). (k * 2 ^ 52 + m + (2 ^ 28 - 1) + u) / 2 ^ 29) same ∙ shift_closest (k * 2 ^ 52 + m) 28
   where
     added : (k m u : ℕ) → k * 2 ^ 23 + (m + (2 ^ 28 - 1) + u) / 2 ^ 29 ≡ (k * 2 ^ 52 + m + (2 ^ 28 - 1) + u) / 2 ^ 29
     added k m u = omega arith
@@ -79,7 +79,7 @@ module _ (t : ℕ) where
           let k = field - 897 in
           let many : 277 ≤ 23 + k = omega arith in
           dropped (omega arith) (omega arith) s
-          ∙ units-over binary32 s (closest digits (2 ^ 29)) k
+          ∙ units_over binary32 s (closest digits (2 ^ 29)) k
           (le_trans (pow_mono many) (le_trans (le_of_eq (pow-add 2 23 k)) (mul-le-mul_right (2 ^ k) some)))
 
   -- below the normal range: in normal form and packed, and a zero
@@ -89,7 +89,7 @@ module _ (t : ℕ) where
         most = P.most;
         is = λ s. P.is s ∙ ap (λ (a : ℕ). round binary32 s a (2 ^ 1128)) N.value
             ∙ sym (round_to_val binary32 (of s) s (m * 2 ^ (j + 54)) (2 ^ 1128) (pow_pos 1128)
-            (same-value (of s) s (m * 2 ^ j) (2 ^ 1074) (m * 2 ^ (j + 54)) (2 ^ 1128) (pow_pos 1074) (shifted binary64 m j) (v s)));
+            (same_value (of s) s (m * 2 ^ j) (2 ^ 1074) (m * 2 ^ (j + 54)) (2 ^ 1128) (pow_pos 1074) (shifted binary64 m j) (v s)));
       }
 
   pub small : (n : Parts) (r : ℕ) → 0 < field → field < 897 → Normal false digits (field - 1 + 54) n → Packed binary32 n r → NarrowedTo t r
@@ -102,4 +102,4 @@ module _ (t : ℕ) where
 
   pub none : t ≤ 0 → NarrowedTo t 0
   none h =
-      record { most = zero-le; is = λ s. (rounded-zero binary32 s).is binary64 (of s) (fields_zero binary64 s field (t % hid binary64) (omega arith) (omega arith)) }
+      record { most = zero-le; is = λ s. (rounded_zero binary32 s).is binary64 (of s) (fields_zero binary64 s field (t % hid binary64) (omega arith) (omega arith)) }

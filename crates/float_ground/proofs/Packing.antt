@@ -12,7 +12,7 @@ use lib.Ieee.Nearest.{closest, nearest-ge}
 use Rattle.float_ground.specs.declared.parts.Parts.{Parts}
 use Rattle.float_ground.specs.Parts.{Tidy, Packed}
 use Rattle.float_laws.proofs.Sign.{infinite}
-use Rattle.float_laws.proofs.Rounding.{rounds, units-over, shift-closest}
+use Rattle.float_laws.proofs.Rounding.{rounds, units_over, shift_closest}
 use Rattle.float_laws.proofs.Patterns.{packs}
 
 -- ---- the bounds of a number rounded
@@ -30,7 +30,7 @@ none m t h =
     let small : m < 2 ^ suc t = omega arith in
     let sum : m + (2 ^ t - 1) < 2 ^ suc t = omega arith in
     let plain : m + (2 ^ t - 1) + 0 % 2 ≡ m + (2 ^ t - 1) = omega arith in
-    sym (shift-closest m t) ∙ ap (λ (x : ℕ). (m + (2 ^ t - 1) + x % 2) / 2 ^ suc t) (div-eq_of_lt small)
+    sym (shift_closest m t) ∙ ap (λ (x : ℕ). (m + (2 ^ t - 1) + x % 2) / 2 ^ suc t) (div-eq_of_lt small)
     ∙ ap (λ (x : ℕ). x / 2 ^ suc t) plain ∙ div-eq_of_lt sum
 
 -- ---- the numbers of a format
@@ -137,7 +137,7 @@ module _ (f : Format) (n : Parts) (N : Tidy n) where
         most = le_refl (ones f * hid f);
         is = λ s. infinite f s
             ∙ sym (dropped (e - first) (55 - prec f) E (le_of_eq (sym (spare f).0)) (inr (le_of_eq (spare f).1)) s
-            ∙ units-over f s (closest m (2 ^ (55 - prec f))) (e - first) big);
+            ∙ units_over f s (closest m (2 ^ (55 - prec f))) (e - first) big);
       }
     where
       E : e + low f + (55 - prec f) ≡ 1128 + (e - first)

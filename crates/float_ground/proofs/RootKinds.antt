@@ -37,13 +37,13 @@ is_subnormal f x = lt (of_bits f 0) x && lt x (least f)
 
 -- ---- what they compare with
 
-least-value : (f : Format) → HasValue (least f) false (hid f) (2 ^ low f)
+least_value : (f : Format) → HasValue (least f) false (hid f) (2 ^ low f)
 unfolding of_bits
-least-value binary32 = fields_high binary32 false 1 0 (zero-lt-suc 0) (λ e. omega arith)
-least-value binary64 = fields_high binary64 false 1 0 (zero-lt-suc 0) (λ e. omega arith)
+least_value binary32 = fields_high binary32 false 1 0 (zero-lt-suc 0) (λ e. omega arith)
+least_value binary64 = fields_high binary64 false 1 0 (zero-lt-suc 0) (λ e. omega arith)
 
-least-positive : (f : Format) → T (positive (least f))
-least-positive f = positive_of_value (least f) (hid f) (2 ^ low f) (least-value f) (pow_pos (prec f - 1))
+least_positive : (f : Format) → T (positive (least f))
+least_positive f = positive_of_value (least f) (hid f) (2 ^ low f) (least_value f) (pow_pos (prec f - 1))
 
 infinity : (f : Format) → of_bits f (ones f * hid f) ≡ inf false
 infinity f = ap (of_bits f) (sym (zero-add (ones f * hid f))) ∙ infinite f false
@@ -57,11 +57,11 @@ is_number b nan y h = and_r b false (subst T (sym h) tt)
 is_number b (inf s) y h = tt
 is_number b (fin s m e) y h = tt
 
-pub normal-number : (f : Format) (x : Float) → is_normal f x ≡ true → T (not (is_nan x))
-normal-number f x h = is_number (le (least f) x) x (of_bits f (ones f * hid f)) h
+pub normal_number : (f : Format) (x : Float) → is_normal f x ≡ true → T (not (is_nan x))
+normal_number f x h = is_number (le (least f) x) x (of_bits f (ones f * hid f)) h
 
-pub subnormal-number : (f : Format) (x : Float) → is_subnormal f x ≡ true → T (not (is_nan x))
-subnormal-number f x h = is_number (lt (of_bits f 0) x) x (least f) h
+pub subnormal_number : (f : Format) (x : Float) → is_subnormal f x ≡ true → T (not (is_nan x))
+subnormal_number f x h = is_number (lt (of_bits f 0) x) x (least f) h
 
 -- and if it is above zero, it is no infinity either
 above_of_lt : (x : Float) → T (lt (fin false 0 (pos 0)) x) → T (above x)
@@ -84,17 +84,17 @@ under (fin false m e) y a h = a
 
 -- ---- what a finite number above zero is
 
-positive-number : (x : Float) → T (positive x) → T (not (is_nan x))
+positive_number : (x : Float) → T (positive x) → T (not (is_nan x))
 unfolding is_nan
-positive-number nan p = p
-positive-number (inf s) p = tt
-positive-number (fin s m e) p = tt
+positive_number nan p = p
+positive_number (inf s) p = tt
+positive_number (fin s m e) p = tt
 
-below-infinity : (x : Float) → T (positive x) → T (lt x (inf false))
+below_infinity : (x : Float) → T (positive x) → T (lt x (inf false))
 unfolding lt
-below-infinity nan p = p
-below-infinity (inf s) p = absurd p
-below-infinity (fin s m e) p = tt
+below_infinity nan p = p
+below_infinity (inf s) p = absurd p
+below_infinity (fin s m e) p = tt
 
 above_zero : (x : Float) → T (positive x) → T (lt (fin false 0 (pos 0)) x)
 unfolding lt
@@ -103,11 +103,11 @@ above_zero (inf s) p = absurd p
 above_zero (fin true m e) p = p
 above_zero (fin false m e) p = lt→ltb (0 * 1 * down e) (m * up e * 1) (omega (arith, mul-pos (ltb→lt 0 m p) (up_pos e)))
 
-positive-sign : (x : Float) (s : Bool) (a c : ℕ) → T (positive x) → HasValue x s a c → s ≡ false
-positive-sign nan s a c p h = absurd p
-positive-sign (inf t) s a c p h = absurd p
-positive-sign (fin true m e) s a c p h = absurd p
-positive-sign (fin false m e) s a c p h = sym h.0
+positive_sign : (x : Float) (s : Bool) (a c : ℕ) → T (positive x) → HasValue x s a c → s ≡ false
+positive_sign nan s a c p h = absurd p
+positive_sign (inf t) s a c p h = absurd p
+positive_sign (fin true m e) s a c p h = absurd p
+positive_sign (fin false m e) s a c p h = sym h.0
 
 -- ---- the fields of a finite number above zero: no sign, and a field k below the infinity's. So which of the two kinds x is turns on
 -- whether k is 0, and that on how x compares with the smallest normal number.
@@ -126,7 +126,7 @@ module _ (f : Format) (x : Float) (F : T (fits f x)) (p : T (positive x)) where
   t = b % hid f
 
   bounds : (k ≤ ones f) × ((t < hid f) × (k ≡ ones f → t ≡ 0))
-  bounds = fields_in f x F (positive-number x p)
+  bounds = fields_in f x F (positive_number x p)
 
   short : k ≡ ones f → ⊥
   short e = subst (λ (y : Float). T (positive y)) (sym (fields_are f x F) ∙ fields_infinite f s k t e (bounds.1.1 e)) p
@@ -139,8 +139,8 @@ module _ (f : Format) (x : Float) (F : T (fits f x)) (p : T (positive x)) where
 
   plus : s ≡ false
   plus = elim (eq-zero-or-pos k) [
-    | inl z ↦ positive-sign x s (t * 2 ^ 0) (2 ^ low f) p (low_value z)
-    | inr h ↦ positive-sign x s ((t + hid f) * 2 ^ (k - 1)) (2 ^ low f) p (high_value h)
+    | inl z ↦ positive_sign x s (t * 2 ^ 0) (2 ^ low f) p (low_value z)
+    | inr h ↦ positive_sign x s ((t + hid f) * 2 ^ (k - 1)) (2 ^ low f) p (high_value h)
   ]
 
   unsigned : b < top f
@@ -151,7 +151,7 @@ module _ (f : Format) (x : Float) (F : T (fits f x)) (p : T (positive x)) where
     | inl z ↦
         let v : HasValue x false t (2 ^ low f) = rw (plus, mul-one t) at (low_value z) in
         absurd (not-le_of_lt bounds.1.0
-        (le_of_mul-le-mul_right (values_of_le (least f) x (hid f) (2 ^ low f) t (2 ^ low f) (least-positive f) p (least-value f) v h)
+        (le_of_mul-le-mul_right (values_of_le (least f) x (hid f) (2 ^ low f) t (2 ^ low f) (least_positive f) p (least_value f) v h)
         (pow_pos (low f))))
     | inr l ↦ within f b unsigned bounds.0 short l
   ]
@@ -169,9 +169,9 @@ module _ (f : Format) (x : Float) (F : T (fits f x)) (p : T (positive x)) where
     | inr l ↦
         let v : HasValue x false ((t + hid f) * 2 ^ (k - 1)) (2 ^ low f) = rw plus at (high_value l) in
         absurd (T_not (lt x (least f))
-        (subst T (le_not_lt (least f) x (positive-number (least f) (least-positive f)) (positive-number x p))
+        (subst T (le_not_lt (least f) x (positive_number (least f) (least_positive f)) (positive_number x p))
         (le_of_values (least f) x (hid f) (2 ^ low f) ((t + hid f) * 2 ^ (k - 1)) (2 ^ low f) (pow_pos (low f)) (pow_pos (low f))
-        (least-value f) v
+        (least_value f) v
         (mul-le-mul_right (2 ^ low f) (le_trans (le-add_left (hid f) t) (le-mul_of_pos_right (t + hid f) (pow_pos (k - 1)))))))
         h)
   ]
@@ -182,22 +182,22 @@ module _ (f : Format) (x : Float) (F : T (fits f x)) (p : T (positive x)) where
 
 -- ---- what the tests tell
 
-pub normal-bits : (f : Format) (x : Float) → T (fits f x) → is_normal f x ≡ true → (hid f ≤ to_bits f x) × (to_bits f x < ones f * hid f)
-normal-bits f x F h =
+pub normal_bits : (f : Format) (x : Float) → T (fits f x) → is_normal f x ≡ true → (hid f ≤ to_bits f x) × (to_bits f x < ones f * hid f)
+normal_bits f x F h =
     let a : T (le (least f) x) = and_l (le (least f) x) (lt x (of_bits f (ones f * hid f))) (subst T (sym h) tt) in
     let l : T (lt x (of_bits f (ones f * hid f))) = and_r (le (least f) x) (lt x (of_bits f (ones f * hid f))) (subst T (sym h) tt) in
-    normal f x F (under x (of_bits f (ones f * hid f)) (above_of_le (least f) x (least-positive f) a) l) a
+    normal f x F (under x (of_bits f (ones f * hid f)) (above_of_le (least f) x (least_positive f) a) l) a
 
-pub subnormal-bits : (f : Format) (x : Float) → T (fits f x) → is_subnormal f x ≡ true → (0 < to_bits f x) × (to_bits f x < hid f)
-subnormal-bits f x F h =
+pub subnormal_bits : (f : Format) (x : Float) → T (fits f x) → is_subnormal f x ≡ true → (0 < to_bits f x) × (to_bits f x < hid f)
+subnormal_bits f x F h =
     let a : T (lt (of_bits f 0) x) = and_l (lt (of_bits f 0) x) (lt x (least f)) (subst T (sym h) tt) in
     let l : T (lt x (least f)) = and_r (lt (of_bits f 0) x) (lt x (least f)) (subst T (sym h) tt) in
     subnormal f x F (under x (least f) (above_of_lt x (rw (zero_bits f false) at a)) l) l
 
 -- a number below zero has no root
-pub below-zero : (f : Format) (x : Float) → lt x (of_bits f 0) ≡ true → nan ≡ root_of f x
+pub below_zero : (f : Format) (x : Float) → lt x (of_bits f 0) ≡ true → nan ≡ root_of f x
 unfolding lt root_of
-below-zero f x h = go x (subst (λ (z : Float). T (lt x z)) (zero_bits f false) (subst T (sym h) tt))
+below_zero f x h = go x (subst (λ (z : Float). T (lt x z)) (zero_bits f false) (subst T (sym h) tt))
   where
     go : (x : Float) → T (lt x (fin false 0 (pos 0))) → nan ≡ root_of f x
     go nan l = absurd l
@@ -211,8 +211,8 @@ below-zero f x h = go x (subst (λ (z : Float). T (lt x z)) (zero_bits f false) 
 passes : (f : Format) (x : Float) → T (positive x) → is_normal f x ≡ false → is_subnormal f x ≡ false → ⊥
 passes f x p h g =
     one (le (least f) x) (lt x (of_bits f (ones f * hid f))) (lt (of_bits f 0) x) (lt x (least f))
-    (le_not_lt (least f) x (positive-number (least f) (least-positive f)) (positive-number x p))
-    (rw (infinity f) (below-infinity x p)) (rw (zero_bits f false) (above_zero x p)) h g
+    (le_not_lt (least f) x (positive_number (least f) (least_positive f)) (positive_number x p))
+    (rw (infinity f) (below_infinity x p)) (rw (zero_bits f false) (above_zero x p)) h g
   where
     one : (n i z s : Bool) → n ≡ not s → T i → T z → (n && i) ≡ false → (z && s) ≡ false → ⊥
     one n true true true e a c h g = true≢false g
@@ -239,7 +239,7 @@ of_pattern f x r F e = both f x r F (e ∙ ap (root_of f) (of_bits-to_bits f x F
 
 pub no_root : (f : Format) (x : Float) → T (fits f x) → lt x (of_bits f 0) ≡ true →
     (div f (of_bits f 0) (of_bits f 0) ≡ root_of f x) × Root f x (div f (of_bits f 0) (of_bits f 0))
-no_root f x F h = both f x (div f (of_bits f 0) (of_bits f 0)) F (nan_by_zero f ∙ below-zero f x h)
+no_root f x F h = both f x (div f (of_bits f 0) (of_bits f 0)) F (nan_by_zero f ∙ below_zero f x h)
 
 pub itself : (f : Format) (x : Float) → T (fits f x) → is_normal f x ≡ false → is_subnormal f x ≡ false → lt x (of_bits f 0) ≡ false →
     (x ≡ root_of f x) × Root f x x

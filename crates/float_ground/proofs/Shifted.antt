@@ -10,7 +10,7 @@ use lib.Pow.{pow-add, pow_pos}
 use lib.Ieee.{Float, Format, binary32, binary64, low, hid, ones, top, of_bits}
 use lib.Ieee.Bits.{is_false}
 use lib.Ieee.Exact.{HasValue}
-use Rattle.float_laws.proofs.Values.{same-value}
+use Rattle.float_laws.proofs.Values.{same_value}
 use Rattle.float_ground.specs.Parts.{wide, zeros}
 use Rattle.float_ground.proofs.Apart.{fields_high, fields_low}
 
@@ -29,7 +29,7 @@ pub value_by : (f : Format) (x : Float) (m j z g t : ℕ) → HasValue x false (
     j + (low f + low f + 1 - zeros f) ≡ z + g + low f →
     HasValue x false ((t % 2 ^ wide f + 2 ^ wide f) * 2 ^ g) (2 ^ (low f + low f + 1 - zeros f))
 value_by f x m j z g t v l e =
-    same-value x false (m * 2 ^ j) (2 ^ low f) ((t % 2 ^ wide f + 2 ^ wide f) * 2 ^ g) (2 ^ (low f + low f + 1 - zeros f)) (pow_pos (low f)) shifted v
+    same_value x false (m * 2 ^ j) (2 ^ low f) ((t % 2 ^ wide f + 2 ^ wide f) * 2 ^ g) (2 ^ (low f + low f + 1 - zeros f)) (pow_pos (low f)) shifted v
   where
     join : (a b : ℕ) → m * 2 ^ a * 2 ^ b ≡ m * 2 ^ (a + b)
     join a b = mul_assoc m (2 ^ a) (2 ^ b) ∙ ap (λ (y : ℕ). m * y) (sym (pow-add 2 a b))
@@ -48,10 +48,10 @@ small f b h = go f b h
     go binary32 b h = let l : b < top binary32 = omega arith in (is_false (leb (top binary32) b) (lt→nleb (top binary32) b l), mod-eq_of_lt l)
     go binary64 b h = let l : b < top binary64 = omega arith in (is_false (leb (top binary64) b) (lt→nleb (top binary64) b l), mod-eq_of_lt l)
 
-pub normal-value : (f : Format) (b : ℕ) → hid f ≤ b → b < ones f * hid f →
+pub normal_value : (f : Format) (b : ℕ) → hid f ≤ b → b < ones f * hid f →
     HasValue (of_bits f b) false ((b % hid f + hid f) * 2 ^ (b / hid f - 1)) (2 ^ low f)
 unfolding of_bits
-normal-value f b lo hi =
+normal_value f b lo hi =
     rw ((small f b hi).0, (small f b hi).1) (fields_high f false (b / hid f) (b % hid f) (some f lo) (short f hi))
   where
     some : (f : Format) → hid f ≤ b → 0 < b / hid f
@@ -62,9 +62,9 @@ normal-value f b lo hi =
     short binary32 h e = omega arith
     short binary64 h e = omega arith
 
-pub subnormal-value : (f : Format) (b : ℕ) → b < hid f → HasValue (of_bits f b) false (b * 2 ^ 0) (2 ^ low f)
+pub subnormal_value : (f : Format) (b : ℕ) → b < hid f → HasValue (of_bits f b) false (b * 2 ^ 0) (2 ^ low f)
 unfolding of_bits
-subnormal-value f b hi =
+subnormal_value f b hi =
     let s = small f b (below f hi) in
     let d : b % hid f ≡ b = mod-eq_of_lt hi in
     let z : b / hid f ≤ 0 = le_of_eq (div-eq_of_lt hi) in

@@ -12,14 +12,14 @@ use lib.Ieee.Fits.{down_pos}
 use lib.Ieee.Positive.{den, den_pos}
 use lib.Ieee.Scale.{finite}
 use Rattle.float_laws.specs.Formula.{◌⊖◌, ◌⊗◌, zero32}
-use Rattle.float_laws.proofs.Order.{LeF, zero_left, no_cond, le→, finite-between}
-use Rattle.float_laws.proofs.Narrowed.{neg-round, zero_is, round_order}
+use Rattle.float_laws.proofs.Order.{LeF, zero_left, no_cond, le→, finite_between}
+use Rattle.float_laws.proofs.Narrowed.{neg_round, zero_is, round_order}
 
-finite-neg : (x : Float) → finite (neg x) ≡ finite x
+finite_neg : (x : Float) → finite (neg x) ≡ finite x
 unfolding neg
-finite-neg nan = refl
-finite-neg (inf s) = refl
-finite-neg (fin s m e) = refl
+finite_neg nan = refl
+finite_neg (inf s) = refl
+finite_neg (fin s m e) = refl
 
 -- ---- finite values as differences of natural numbers: how much of x lies above zero, and how much below it, over `den x`
 abbrev over : Float → ℕ
@@ -65,12 +65,12 @@ le_high : (x y : Float) → T (finite x) → T (finite y) → T (le x y) → hig
 le_high =
     of_both (λ x y. T (le x y) → high x y ≤ high y x) λ s m e t n d h. cross s t (m * up e) (down e) (n * up d) (down d) (le→ s m e t n d h)
 
-unlike-signs : (s t : Bool) (M p N q : ℕ) → LeF s M p false 0 1 → LeF false 0 1 t N q →
+unlike_signs : (s t : Bool) (M p N q : ℕ) → LeF s M p false 0 1 → LeF false 0 1 t N q →
     LeF (unlike s t) (M * N) (p * q) false 0 1 × LeF (unlike t s) (N * M) (q * p) false 0 1
-unlike-signs false false M p N q h k = omega (arith, mul-le-mul_right N h)
-unlike-signs false true M p N q h k = (tt, tt)
-unlike-signs true false M p N q h k = (tt, tt)
-unlike-signs true true M p N q h k = omega (arith, ap (λ (z : ℕ). z * M) k.1)
+unlike_signs false false M p N q h k = omega (arith, mul-le-mul_right N h)
+unlike_signs false true M p N q h k = (tt, tt)
+unlike_signs true false M p N q h k = (tt, tt)
+unlike_signs true true M p N q h k = omega (arith, ap (λ (z : ℕ). z * M) k.1)
 
 module _ (f : Format) where
   -- z is (P - N) / c, rounded
@@ -124,7 +124,7 @@ module _ (f : Format) where
 
   flip : (x y z : Float) → Less x y z → Less y x (neg z)
   flip x y z i =
-      let e = ap neg i.2 ∙ sym (neg-round f i.0 i.1 _) ∙ ap (round f (not i.0) i.1) (mul_comm (den x) (den y)) in
+      let e = ap neg i.2 ∙ sym (neg_round f i.0 i.1 _) ∙ ap (round f (not i.0) i.1) (mul_comm (den x) (den y)) in
       (not i.0, i.1, e, go i.0 i.1 i.3)
     where
       go : (s : Bool) (g : ℕ) → high x y + cond s g 0 ≡ high y x + cond s 0 g → high y x + cond (not s) g 0 ≡ high x y + cond (not s) 0 g
@@ -135,34 +135,34 @@ module _ (f : Format) where
   turned : (x y : Float) → T (finite x) → T (finite y) → T (finite (sub f x y)) → T (finite (sub f y x))
   turned x y p q w =
       let a = neg (sub f x y) in
-      let F : T (finite a) = rw (finite-neg (sub f x y)) w in
+      let F : T (finite a) = rw (finite_neg (sub f x y)) w in
       let i = flip x y (sub f x y) (less_is x y p q) in
       let j = less_is y x q p in
-      finite-between a (sub f y x) a F F (less_order y x y x a (sub f y x) i j (omega arith)) (less_order y x y x (sub f y x) a j i (omega arith))
+      finite_between a (sub f y x) a F F (less_order y x y x a (sub f y x) i j (omega arith)) (less_order y x y x (sub f y x) a j i (omega arith))
 
   -- a finite difference is one of finite values, and it is finite the other way too
-  pub sub-finite : (x y : Float) → T (finite (sub f x y)) → T (finite x) × T (finite y) × T (finite (sub f y x))
+  pub sub_finite : (x y : Float) → T (finite (sub f x y)) → T (finite x) × T (finite y) × T (finite (sub f y x))
   unfolding sub neg
-  sub-finite nan y h = absurd h
-  sub-finite (inf s) nan h = absurd h
-  sub-finite (inf s) (inf t) h = absurd (no_cond (beq s (not t)) (inf s) nan (λ x. x) (λ x. x) h)
-  sub-finite (inf s) (fin t n d) h = absurd h
-  sub-finite (fin s m e) nan h = absurd h
-  sub-finite (fin s m e) (inf t) h = absurd h
-  sub-finite (fin s m e) (fin t n d) h = (tt, tt, turned (fin s m e) (fin t n d) tt tt h)
+  sub_finite nan y h = absurd h
+  sub_finite (inf s) nan h = absurd h
+  sub_finite (inf s) (inf t) h = absurd (no_cond (beq s (not t)) (inf s) nan (λ x. x) (λ x. x) h)
+  sub_finite (inf s) (fin t n d) h = absurd h
+  sub_finite (fin s m e) nan h = absurd h
+  sub_finite (fin s m e) (inf t) h = absurd h
+  sub_finite (fin s m e) (fin t n d) h = (tt, tt, turned (fin s m e) (fin t n d) tt tt h)
 
   -- what lies between two values whose difference is finite has finite differences from both
-  pub part-finite : (x y z : Float) → T (le x y) → T (le y z) → T (finite (sub f z x)) →
+  pub part_finite : (x y z : Float) → T (le x y) → T (le y z) → T (finite (sub f z x)) →
       T (finite (sub f x y)) × T (finite (sub f y x)) × T (finite (sub f y z)) × T (finite (sub f z y))
-  part-finite x y z h k w =
-      let (Z, X, _) = sub-finite z x w in
-      let Y = finite-between x y z X Z h k in
+  part_finite x y z h k w =
+      let (Z, X, _) = sub_finite z x w in
+      let Y = finite_between x y z X Z h k in
       let i = mul-le-mul_right (den x * den x) (le_high y z Y Z k) in
       let j = mul-le-mul_right (den z * den z) (le_high x y X Y h) in
       let lower = less_order y x z x (sub f y x) (sub f z x) (less_is y x Y X) (less_is z x Z X) (omega arith) in
       let upper = less_order z y z x (sub f z y) (sub f z x) (less_is z y Z Y) (less_is z x Z X) (omega arith) in
-      let a = finite-between nought (sub f y x) (sub f z x) tt w (signs x y X Y h).1 lower in
-      let b = finite-between nought (sub f z y) (sub f z x) tt w (signs y z Y Z k).1 upper in
+      let a = finite_between nought (sub f y x) (sub f z x) tt w (signs x y X Y h).1 lower in
+      let b = finite_between nought (sub f z y) (sub f z x) tt w (signs y z Y Z k).1 upper in
       (turned y x Y X a, a, turned z y Z Y b, b)
 
   -- a product of unlike signs; for a factor that is not finite it may be a NaN
@@ -170,7 +170,7 @@ module _ (f : Format) where
       T (le (mul f x y) nought) × T (le (mul f y x) nought)
   unfolding mul
   product = of_both (λ x y. T (le x nought) → T (le nought y) → T (le (mul f x y) nought) × T (le (mul f y x) nought)) λ s m e t n d h k.
-      let g = unlike-signs s t (m * up e) (down e) (n * up d) (down d) (le→ s m e false 0 (pos 0) h) (le→ false 0 (pos 0) t n d k) in
+      let g = unlike_signs s t (m * up e) (down e) (n * up d) (down d) (le→ s m e false 0 (pos 0) h) (le→ false 0 (pos 0) t n d k) in
       rw (← zero_is f false) (
         round_order f _ false _ _ 0 1 (mul-pos (down_pos e) (down_pos d)) (zero-lt-suc 0) g.0,
         round_order f _ false _ _ 0 1 (mul-pos (down_pos d) (down_pos e)) (zero-lt-suc 0) g.1,
@@ -179,15 +179,15 @@ module _ (f : Format) where
   between : (x y z : Float) → T (le x y) → T (le y z) → T (finite (sub f z x)) →
       T (le (mul f (sub f x y) (sub f z y)) nought) × T (le (mul f (sub f z y) (sub f x y)) nought)
   between x y z h k w =
-      let g = part-finite x y z h k w in
-      let i = sub-finite x y g.0 in
-      product (sub f x y) (sub f z y) g.0 g.3 (signs x y i.0 i.1 h).0 (signs y z i.1 (sub-finite z x w).0 k).1
+      let g = part_finite x y z h k w in
+      let i = sub_finite x y g.0 in
+      product (sub f x y) (sub f z y) g.0 g.3 (signs x y i.0 i.1 h).0 (signs y z i.1 (sub_finite z x w).0 k).1
 
 -- ---- the test (a - b)(c - b) <= 0 passes for b between a and c, whichever way a to c runs
-pub rising-product : (a b c : Float) → T (le a b) → T (le b c) → T (finite (c ⊖ a)) → T (le ((a ⊖ b) ⊗ (c ⊖ b)) zero32)
+pub rising_product : (a b c : Float) → T (le a b) → T (le b c) → T (finite (c ⊖ a)) → T (le ((a ⊖ b) ⊗ (c ⊖ b)) zero32)
 unfolding of_bits
-rising-product a b c h k w = (between binary32 a b c h k w).0
+rising_product a b c h k w = (between binary32 a b c h k w).0
 
 pub falling_product : (a b c : Float) → T (le b a) → T (le c b) → T (finite (c ⊖ a)) → T (le ((a ⊖ b) ⊗ (c ⊖ b)) zero32)
 unfolding of_bits
-falling_product a b c h k w = (between binary32 c b a k h (sub-finite binary32 c a w).2).1
+falling_product a b c h k w = (between binary32 c b a k h (sub_finite binary32 c a w).2).1

@@ -10,12 +10,12 @@ use lib.Ieee.Fits.{up_pos, down_pos, and_l, and_r, fits_widens}
 use Rattle.float_laws.specs.Narrow.{round_to, narrow_of, kept}
 use Rattle.float_laws.proofs.Narrowed.{round_to-fits, round-held}
 use Rattle.float_laws.proofs.Order.{or_case}
-use Rattle.float_laws.proofs.Squares.{nan-test}
+use Rattle.float_laws.proofs.Squares.{nan_test}
 use Rattle.float_laws.proofs.Values.{own_fraction, value_unique}
 
-pub left_is-kept : (x : Float) → narrow_of x ≡ x → kept x ≡ true
+pub left_is_kept : (x : Float) → narrow_of x ≡ x → kept x ≡ true
 unfolding kept ne
-left_is-kept x e = rw (e, ← nan-test x) (go (eq x x))
+left_is_kept x e = rw (e, ← nan_test x) (go (eq x x))
   where
     go : (b : Bool) → (not b || b) ≡ true
     go true = refl

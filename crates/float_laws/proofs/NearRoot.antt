@@ -83,14 +83,14 @@ odd_part m i o j e h = go (dec_le i j)
         let same : m * 2 ^ (i - j) ≡ o = le_antisymm'
         (le_of_mul-le-mul_right (le_of_eq (sym (split_at m i j (le_of_lt l)) ∙ e)) (pow_pos j))
         (le_of_mul-le-mul_right (le_of_eq (sym e ∙ split_at m i j (le_of_lt l))) (pow_pos j)) in
-        let z : o % 2 ≡ 0 = ap (λ (x : ℕ). x % 2) (sym same) ∙ even m (i - j) (sub-pos i j l) in
+        let z : o % 2 ≡ 0 = ap (λ (x : ℕ). x % 2) (sym same) ∙ even m (i - j) (sub_pos i j l) in
         absurd (differ (o % 2) h z)
       where
         le_antisymm' : {a b : ℕ} → a ≤ b → b ≤ a → a ≡ b
         le_antisymm' {a} {b} x y = omega arith
 
-        sub-pos : (i j : ℕ) → j < i → 0 < i - j
-        sub-pos i j l = omega arith
+        sub_pos : (i j : ℕ) → j < i → 0 < i - j
+        sub_pos i j l = omega arith
 
         differ : (a : ℕ) → a ≡ 1 → a ≡ 0 → ⊥
         differ a x y = omega arith
@@ -165,17 +165,17 @@ module _ (f : Format) (m i : ℕ) (some : 0 < m) (few : m < 2 ^ prec f) (fit : m
       one : (w q : ℕ) → w < suc q * 1 → 0 < w → 0 < q
       one w q h p = omega arith
 
-      root-pos : (w : ℕ) → N < suc w * suc w → 0 < w
-      root-pos zero h = absurd (not-le_of_lt N-pos (le_of_suc-le-suc h))
-      root-pos (suc w) h = zero-lt-suc w
+      root_pos : (w : ℕ) → N < suc w * suc w → 0 < w
+      root_pos zero h = absurd (not-le_of_lt N-pos (le_of_suc-le-suc h))
+      root_pos (suc w) h = zero-lt-suc w
 
       go : Full (prec f) q k → 0 < q
-      go (inl z) = one w q (subst (λ (x : ℕ). w < suc q * 2 ^ x) z w_lt) (root-pos w (root_is N).below)
+      go (inl z) = one w q (subst (λ (x : ℕ). w < suc q * 2 ^ x) z w_lt) (root_pos w (root_is N).below)
       go (inr h) = lt_of_lt_of_le (pow_pos (prec f - 1)) h
 
   -- 4 N is no odd square: its odd part has too few digits
-  not-half : 4 * N ≡ odd → ⊥
-  not-half e = clash full (odd_part m (2 + (i + low f)) ((q + q + 1) * (q + q + 1)) (k + k) (four ∙ e ∙ squares) (omega arith))
+  not_half : 4 * N ≡ odd → ⊥
+  not_half e = clash full (odd_part m (2 + (i + low f)) ((q + q + 1) * (q + q + 1)) (k + k) (four ∙ e ∙ squares) (omega arith))
     where
       four : m * 2 ^ (2 + (i + low f)) ≡ 4 * N
       four = ap (λ (x : ℕ). m * x) (pow-add 2 2 (i + low f) ∙ ap (λ (x : ℕ). 4 * x) (pow-add 2 i (low f))) ∙ shuffle m (2 ^ i) (2 ^ low f)
@@ -226,9 +226,9 @@ module _ (f : Format) (m i : ℕ) (some : 0 < m) (few : m < 2 ^ prec f) (fit : m
   low_below v l =
       lt_of_lt_of_le (square_lt (v + q * K) (q * K + q * K) (omega arith)) (le_trans (le_of_eq (four_of (q * K))) (mul-le-mul_left 4 at_least))
 
-  low-above : (n j : ℕ) → n < 2 ^ prec f → 4 * N ≤ odd → Above q (n * 2 ^ j)
-  low-above n j h t l =
-      lt_of_lt_of_le (lt_of_le_of_ne t not-half)
+  low_above : (n j : ℕ) → n < 2 ^ prec f → 4 * N ≤ odd → Above q (n * 2 ^ j)
+  low_above n j h t l =
+      lt_of_lt_of_le (lt_of_le_of_ne t not_half)
       (mul-le-mul (wide (gap_above (prec f) n j q k P h full l)) (wide (gap_above (prec f) n j q k P h full l)))
     where
       lt_of_le_of_ne : {a b : ℕ} → a ≤ b → (a ≡ b → ⊥) → a < b
@@ -237,27 +237,27 @@ module _ (f : Format) (m i : ℕ) (some : 0 < m) (few : m < 2 ^ prec f) (fit : m
       wide : suc q * K ≤ n * 2 ^ j → (q + q + 1) * K ≤ n * 2 ^ j + q * K
       wide g = le_trans (le_of_eq (sym odd_of)) (le_trans (le_of_eq (add_comm (q * K) (suc q * K))) (add-le-add g (le_refl (q * K))))
 
-  high-below : (n j : ℕ) → n < 2 ^ prec f → odd < 4 * N → Below (suc q) (n * 2 ^ j)
-  high-below n j h t l =
+  high_below : (n j : ℕ) → n < 2 ^ prec f → odd < 4 * N → Below (suc q) (n * 2 ^ j)
+  high_below n j h t l =
       let s : n * 2 ^ j + suc q * K ≤ (q + q + 1) * K = le_trans
       (add-le-add (gap_below (prec f) n j q k P h full l) (le_refl (suc q * K))) (le_of_eq odd_of) in
       lt_of_le_of_lt (mul-le-mul s s) t
 
-  high-above : (v : ℕ) → Above (suc q) v
-  high-above v l =
-      lt_of_lt_of_le (mul-four below) (le_trans (le_of_eq (sym (four_of (suc q * K))))
+  high_above : (v : ℕ) → Above (suc q) v
+  high_above v l =
+      lt_of_lt_of_le (mul_four below) (le_trans (le_of_eq (sym (four_of (suc q * K))))
       (le_of_lt (square_lt (suc q * K + suc q * K) (v + suc q * K) (omega arith))))
     where
-      mul-four : {a b : ℕ} → a < b → 4 * a < 4 * b
-      mul-four {a} {b} h = omega arith
+      mul_four : {a b : ℕ} → a < b → 4 * a < 4 * b
+      mul_four {a} {b} h = omega arith
 
   -- every other value n * 2 ^ j
   pub strict : (n j : ℕ) → n < 2 ^ prec f → Below c (n * 2 ^ j) × Above c (n * 2 ^ j)
   strict n j h = go (leb (4 * N) odd) (leb→le (4 * N) odd) (nleb→lt (4 * N) odd)
     where
       go : (b : Bool) → (T b → 4 * N ≤ odd) → (T (not b) → odd < 4 * N) → Below (cond b q (suc q)) (n * 2 ^ j) × Above (cond b q (suc q)) (n * 2 ^ j)
-      go true t u = (low_below (n * 2 ^ j), low-above n j h (t tt))
-      go false t u = (high-below n j h (u tt), high-above (n * 2 ^ j))
+      go true t u = (low_below (n * 2 ^ j), low_above n j h (t tt))
+      go false t u = (high_below n j h (u tt), high_above (n * 2 ^ j))
 
   -- the result is above zero, and far below the infinity
   pub c_pos : 0 < c

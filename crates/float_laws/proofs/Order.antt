@@ -14,7 +14,7 @@ use lib.Ieee.Scale.{finite}
 use lib.Ieee.Positive.{through}
 use Rattle.float_laws.proofs.Rounding.{Cmp, cmp}
 use Rattle.float_laws.proofs.Sides.{Side, less, same, more, apart, is_not_more, is_not_less, is_not_apart, side_of, signed, ranked, versus, le_is}
-use Rattle.float_laws.proofs.Sides.{ge_is, ordered-versus}
+use Rattle.float_laws.proofs.Sides.{ge_is, ordered_versus}
 
 -- ---- Booleans
 
@@ -60,9 +60,9 @@ none : (a : ℕ) → T (is_not_more (signed false a)) → a ≡ 0
 none zero t = refl
 none (suc a) t = absurd t
 
-some-side : (a : ℕ) → T (is_not_more (signed true a))
-some-side zero = tt
-some-side (suc a) = tt
+some_side : (a : ℕ) → T (is_not_more (signed true a))
+some_side zero = tt
+some_side (suc a) = tt
 
 ranked→ : (s t : Bool) (M p N q : ℕ) → 0 < p → 0 < q → T (is_not_more (ranked s (M * q) t (N * p))) → LeF s M p t N q
 ranked→ false false M p N q P Q h = at_most (M * q) (N * p) h
@@ -75,21 +75,21 @@ ranked→ true true M p N q P Q h = at_most (N * p) (M * q) h
 →ranked : (s t : Bool) (M p N q : ℕ) → LeF s M p t N q → T (is_not_more (ranked s (M * q) t (N * p)))
 →ranked false false M p N q h = not_more (M * q) (N * p) h
 →ranked false true M p N q h = rw (h.0, h.1, zero-mul, zero-mul) tt
-→ranked true false M p N q h = some-side (M * q + N * p)
+→ranked true false M p N q h = some_side (M * q + N * p)
 →ranked true true M p N q h = not_more (N * p) (M * q) h
 
 no_more : (N p M q : ℕ) → N ≡ 0 → N * p ≤ M * q
 no_more N p M q e = rw (e, zero-mul) zero-le
 
-through-signs : (s t u : Bool) (M p N q K r : ℕ) → 0 < p → 0 < q → 0 < r → LeF s M p t N q → LeF t N q u K r → LeF s M p u K r
-through-signs false false false M p N q K r P Q R h k = through M N K p q r Q h k
-through-signs false false true M p N q K r P Q R h k = (zero_left M q Q (le_trans h (le_of_eq (ap (λ (n : ℕ). n * p) k.0 ∙ zero-mul p))), k.1)
-through-signs false true false M p N q K r P Q R h k = no_more M r K p h.0
-through-signs false true true M p N q K r P Q R h k = (h.0, zero_left K q Q (le_trans k (le_of_eq (ap (λ (n : ℕ). n * r) h.1 ∙ zero-mul r))))
-through-signs true false false M p N q K r P Q R h k = tt
-through-signs true false true M p N q K r P Q R h k = no_more K p M r k.1
-through-signs true true false M p N q K r P Q R h k = tt
-through-signs true true true M p N q K r P Q R h k = through K N M r q p Q k h
+through_signs : (s t u : Bool) (M p N q K r : ℕ) → 0 < p → 0 < q → 0 < r → LeF s M p t N q → LeF t N q u K r → LeF s M p u K r
+through_signs false false false M p N q K r P Q R h k = through M N K p q r Q h k
+through_signs false false true M p N q K r P Q R h k = (zero_left M q Q (le_trans h (le_of_eq (ap (λ (n : ℕ). n * p) k.0 ∙ zero-mul p))), k.1)
+through_signs false true false M p N q K r P Q R h k = no_more M r K p h.0
+through_signs false true true M p N q K r P Q R h k = (h.0, zero_left K q Q (le_trans k (le_of_eq (ap (λ (n : ℕ). n * r) h.1 ∙ zero-mul r))))
+through_signs true false false M p N q K r P Q R h k = tt
+through_signs true false true M p N q K r P Q R h k = no_more K p M r k.1
+through_signs true true false M p N q K r P Q R h k = tt
+through_signs true true true M p N q K r P Q R h k = through K N M r q p Q k h
 
 -- ---- the laws, on sides
 
@@ -122,7 +122,7 @@ trans (fin s m e) (fin t n d) (inf true) h k = k
 trans (fin s m e) (fin t n d) (inf false) h k = tt
 trans (fin s m e) (fin t n d) (fin u o f) h k =
     →ranked s u (m * up e) (down e) (o * up f) (down f)
-    (through-signs s t u (m * up e) (down e) (n * up d) (down d) (o * up f) (down f) (down_pos e) (down_pos d) (down_pos f)
+    (through_signs s t u (m * up e) (down e) (n * up d) (down d) (o * up f) (down f) (down_pos e) (down_pos d) (down_pos f)
     (ranked→ s t (m * up e) (down e) (n * up d) (down d) (down_pos e) (down_pos d) h)
     (ranked→ t u (n * up d) (down d) (o * up f) (down f) (down_pos d) (down_pos f) k))
 
@@ -138,15 +138,15 @@ squeezed (fin s m e) (fin t n d) z p q h k = tt
 
 -- ---- and of `le`
 
-pub le_trans-float : (x y z : Float) → T (le x y) → T (le y z) → T (le x z)
-le_trans-float x y z h k = rw (le_is x z) (trans x y z (rw (le_is x y) at h) (rw (le_is y z) at k))
+pub le_trans_float : (x y z : Float) → T (le x y) → T (le y z) → T (le x z)
+le_trans_float x y z h k = rw (le_is x z) (trans x y z (rw (le_is x y) at h) (rw (le_is y z) at k))
 
 pub le→ : (s : Bool) (m : ℕ) (e : ℤ) (t : Bool) (n : ℕ) (d : ℤ) → T (le (fin s m e) (fin t n d)) → LeF s (m * up e) (down e) t (n * up d) (down d)
 le→ s m e t n d h = ranked→ s t (m * up e) (down e) (n * up d) (down d) (down_pos e) (down_pos d) (rw (le_is (fin s m e) (fin t n d)) at h)
 
 -- of two numbers, infinities among them, one is at most the other
 pub le_total : (x y : Float) → T (not (is_nan x)) → T (not (is_nan y)) → T (le x y) ⊎ T (le y x)
-le_total x y p q = go (versus x y) (ordered-versus x y p q) (le_is x y) (ge_is x y)
+le_total x y p q = go (versus x y) (ordered_versus x y p q) (le_is x y) (ge_is x y)
   where
     go : (o : Side) → T (is_not_apart o) → le x y ≡ is_not_more o → le y x ≡ is_not_less o → T (le x y) ⊎ T (le y x)
     go less n a b = inl (rw a tt)
@@ -167,8 +167,8 @@ pub le_self : (x : Float) → T (finite x) → T (le x x)
 le_self x p = ⊎_elim (λ h. h) (λ h. h) (le_either x x p p)
 
 -- what lies between two finite values is finite
-pub finite-between : (x y z : Float) → T (finite x) → T (finite z) → T (le x y) → T (le y z) → T (finite y)
-finite-between x y z p q h k = squeezed x y z p q (rw (le_is x y) at h) (rw (le_is y z) at k)
+pub finite_between : (x y z : Float) → T (finite x) → T (finite z) → T (le x y) → T (le y z) → T (finite y)
+finite_between x y z p q h k = squeezed x y z p q (rw (le_is x y) at h) (rw (le_is y z) at k)
 
 -- ---- a finite product has finite factors
 
@@ -176,12 +176,12 @@ pub no_cond : (b : Bool) (x y : Float) → (T (finite x) → ⊥) → (T (finite
 no_cond true x y p q h = p h
 no_cond false x y p q h = q h
 
-pub mul-finite : (f : Format) (x y : Float) → T (finite (mul f x y)) → T (finite x) × T (finite y)
+pub mul_finite : (f : Format) (x y : Float) → T (finite (mul f x y)) → T (finite x) × T (finite y)
 unfolding mul
-mul-finite f nan y h = absurd h
-mul-finite f (inf s) nan h = absurd h
-mul-finite f (inf s) (inf t) h = absurd h
-mul-finite f (inf s) (fin t n d) h = absurd (no_cond (eqb n 0) nan (inf (unlike s t)) (λ x. x) (λ x. x) h)
-mul-finite f (fin s m e) nan h = absurd h
-mul-finite f (fin s m e) (inf t) h = absurd (no_cond (eqb m 0) nan (inf (unlike s t)) (λ x. x) (λ x. x) h)
-mul-finite f (fin s m e) (fin t n d) h = (tt, tt)
+mul_finite f nan y h = absurd h
+mul_finite f (inf s) nan h = absurd h
+mul_finite f (inf s) (inf t) h = absurd h
+mul_finite f (inf s) (fin t n d) h = absurd (no_cond (eqb n 0) nan (inf (unlike s t)) (λ x. x) (λ x. x) h)
+mul_finite f (fin s m e) nan h = absurd h
+mul_finite f (fin s m e) (inf t) h = absurd (no_cond (eqb m 0) nan (inf (unlike s t)) (λ x. x) (λ x. x) h)
+mul_finite f (fin s m e) (fin t n d) h = (tt, tt)

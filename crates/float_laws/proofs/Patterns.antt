@@ -76,10 +76,10 @@ at_top f q k h lo le big =
     let e = emax f in
     let z = size n in
     let K = z - p in
-    let big-size : low f + suc e < z = size_gt n (low f + suc e) big in
+    let big_size : low f + suc e < z = size_gt n (low f + suc e) big in
     let full : hid f ≤ n / 2 ^ K = (le-div_iff_mul-le (pow_pos K)).1
-    (le_trans (le_of_eq (sym (pow-add 2 (p - 1) K))) (size_reaches n (p - 1 + K) (inside z p e (two f) big-size))) in
-    let more : 2 * e * hid f ≤ K * hid f = mul-le-mul_right (hid f) (many z p e (two f) big-size) in
+    (le_trans (le_of_eq (sym (pow-add 2 (p - 1) K))) (size_reaches n (p - 1 + K) (inside z p e (two f) big_size))) in
+    let more : 2 * e * hid f ≤ K * hid f = mul-le-mul_right (hid f) (many z p e (two f) big_size) in
     let one_more : ones f * hid f ≡ 2 * e * hid f + hid f = ap (λ (x : ℕ). x * hid f) (add-one (2 * e)) ∙ suc-mul (2 * e) (hid f) in
     let sum : K * hid f + n / 2 ^ K ≡ k * hid f + q = digits f q k h lo in
     le_antisymm le (le_trans (le_of_eq one_more) (le_trans (add-le-add more full) (le_of_eq sum)))
@@ -120,8 +120,8 @@ plain-bits f x F n =
 pub plain_word : (f : Format) (b : ℕ) → b % top f ≤ ones f * hid f → T (not (nan_bits f b))
 plain_word f b h = subst (λ (t : Bool). T (not t)) (sym (nan_bits_above f b)) (le→nltb (ones f * hid f) (b % top f) h)
 
-pub plain-pattern : (f : Format) (s : Bool) (r : ℕ) → r ≤ ones f * hid f → T (not (nan_bits f (cond s (top f) 0 + r)))
-plain-pattern f s r h = plain_word f (cond s (top f) 0 + r) (subst (λ (x : ℕ). x ≤ ones f * hid f) (sym (rest s)) h)
+pub plain_pattern : (f : Format) (s : Bool) (r : ℕ) → r ≤ ones f * hid f → T (not (nan_bits f (cond s (top f) 0 + r)))
+plain_pattern f s r h = plain_word f (cond s (top f) 0 + r) (subst (λ (x : ℕ). x ≤ ones f * hid f) (sym (rest s)) h)
   where
     r_lt : r < top f
     r_lt =
@@ -132,5 +132,5 @@ plain-pattern f s r h = plain_word f (cond s (top f) 0 + r) (subst (λ (x : ℕ)
     rest true = add-mod_left (top f) r ∙ mod-eq_of_lt r_lt
     rest false = ap (λ (x : ℕ). x % top f) (zero-add r) ∙ mod-eq_of_lt r_lt
 
-pub plain-small : (f : Format) (r : ℕ) → r ≤ ones f * hid f → T (not (nan_bits f r))
-plain-small f r h = subst (λ (x : ℕ). T (not (nan_bits f x))) (zero-add r) (plain-pattern f false r h)
+pub plain_small : (f : Format) (r : ℕ) → r ≤ ones f * hid f → T (not (nan_bits f r))
+plain_small f r h = subst (λ (x : ℕ). T (not (nan_bits f x))) (zero-add r) (plain_pattern f false r h)

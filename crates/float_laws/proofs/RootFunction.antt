@@ -26,11 +26,11 @@ pub record IsRoot (n r : ℕ) : Type 0 where
   pub at_least : r * r ≤ n
   pub below : n < suc r * suc r
 
-whole-root : (d n : ℕ) → n < 2 ^ d * 2 ^ d → IsRoot n (whole_root d n)
+whole_root_lem : (d n : ℕ) → n < 2 ^ d * 2 ^ d → IsRoot n (whole_root d n)
 unfolding whole_root
-whole-root zero n h = record { at_least = omega arith; below = omega arith }
-whole-root (suc d) n h =
-    go (whole_root d (n / 4)) (whole-root d (n / 4)
+whole_root_lem zero n h = record { at_least = omega arith; below = omega arith }
+whole_root_lem (suc d) n h =
+    go (whole_root d (n / 4)) (whole_root_lem d (n / 4)
     (quarter n (2 ^ d * 2 ^ d) (subst (λ (x : ℕ). n < x) (ap (λ (x : ℕ). x * x) (pow-succ' 2 d) ∙ mul-mul-mul_comm 2 (2 ^ d) 2 (2 ^ d)) h)))
   where
     quarter : (n s : ℕ) → n < 4 * s → n / 4 < s
@@ -46,7 +46,7 @@ whole-root (suc d) n h =
 -- every number has digits enough
 pub root_is : (n : ℕ) → IsRoot n (whole_root (size n) n)
 root_is n =
-    whole-root (size n) n (lt_of_lt_of_le (size-lt n)
+    whole_root_lem (size n) n (lt_of_lt_of_le (size-lt n)
     (le_trans (le_of_eq (sym (mul-one (2 ^ size n)))) (mul-le-mul_left (2 ^ size n) (pow_pos (size n)))))
 
 below : (a b n : ℕ) → a * a ≤ n → n < b * b → a < b

@@ -18,7 +18,7 @@ use lib.Ieee.Scale.{finite}
 use Rattle.float_laws.specs.Root.{NearestRoot, Root, counted, sums, scale, whole_root, root_at, root_of}
 use Rattle.float_laws.proofs.NearRoot as near
 use Rattle.float_laws.proofs.RootFunction.{root_of_is}
-use Rattle.float_laws.proofs.Values.{Counted, count_of, value_unique, same-value}
+use Rattle.float_laws.proofs.Values.{Counted, count_of, value_unique, same_value}
 
 -- ---- from whole numbers of units to the floats' own fractions
 
@@ -102,8 +102,8 @@ positive-counted (fin false m e) p = tt
 
 pub record StrictRoot (f : Format) (x r : Float) : Type 0 where
   pub above_zero : T (positive r)
-  pub from-below : (y : Float) → T (fits f y) → T (counted y) → T (lt y r) → sums y r * den x < 4 * num x * scale y r
-  pub from-above : (y : Float) → T (fits f y) → T (counted y) → T (lt r y) → 4 * num x * scale y r < sums y r * den x
+  pub from_below : (y : Float) → T (fits f y) → T (counted y) → T (lt y r) → sums y r * den x < 4 * num x * scale y r
+  pub from_above : (y : Float) → T (fits f y) → T (counted y) → T (lt r y) → 4 * num x * scale y r < sums y r * den x
 
 module _ (f : Format) (m : ℕ) (e : ℤ) (F : T (fits f (fin false (suc m) e))) where
   abbrev x : Float
@@ -157,18 +157,18 @@ module _ (f : Format) (m : ℕ) (e : ℤ) (F : T (fits f (fin false (suc m) e)))
       sym (mul_assoc (num x) (2 ^ low f) (2 ^ low f)) ∙ ap (λ (y : ℕ). y * 2 ^ low f) z.value
       ∙ mul_right_comm (z.m * 2 ^ z.i) (den x) (2 ^ low f)
 
-  pub strict-root : StrictRoot f x r
-  strict-root =
+  pub strict_root : StrictRoot f x r
+  strict_root =
       record {
         above_zero = r_positive;
-        from-below = λ y G p l.
+        from_below = λ y G p l.
             let o = count_of f y G (counted-finite y p) in
             to_below (2 ^ low f) (num y) (den y) (num r) (den r) (o.m * 2 ^ o.i) (c * 2 ^ k) (num x) (den x) n
             o.value er ex (den_pos x) (den_pos y) (den_pos r)
             ((near.strict f z.m z.i some z.few z.under o.m o.i o.few).0
             (counts_lt (2 ^ low f) (num y) (den y) (num r) (den r) (o.m * 2 ^ o.i) (c * 2 ^ k) L-pos o.value er
             (lt→cross y r p (positive-counted r r_positive) l)));
-        from-above = λ y G p l.
+        from_above = λ y G p l.
             let o = count_of f y G (counted-finite y p) in
             to_above (2 ^ low f) (num y) (den y) (num r) (den r) (o.m * 2 ^ o.i) (c * 2 ^ k) (num x) (den x) n
             o.value er ex (den_pos x) (den_pos y) (den_pos r)
@@ -213,8 +213,8 @@ weaken f x r G s =
     record {
       held = G;
       above_zero = s.above_zero;
-      from-below = λ y F p l. le_of_lt (s.from-below y F p l);
-      from-above = λ y F p l. le_of_lt (s.from-above y F p l);
+      from_below = λ y F p l. le_of_lt (s.from_below y F p l);
+      from_above = λ y F p l. le_of_lt (s.from_above y F p l);
     }
 
 -- every value that fits has the root that `rootOf` computes
@@ -227,7 +227,7 @@ nearest-root f (fin s zero e) F = refl
 nearest-root f (fin true (suc m) e) F = refl
 nearest-root f (fin false (suc m) e) F =
     let x = fin false (suc m) e in
-    weaken f x (root_of f x) (root-fits f x F) (strict-root f m e F)
+    weaken f x (root_of f x) (root-fits f x F) (strict_root f m e F)
 
 -- what equals `rootOf` is the root, and has its meaning
 pub both : (f : Format) (x r : Float) → T (fits f x) → r ≡ root_of f x → (r ≡ root_of f x) × Root f x r
@@ -246,7 +246,7 @@ same-positive : (f : Format) (r s : Float) → T (fits f r) → T (fits f s) →
     (T (lt s r) → ⊥) → r ≡ s
 same-positive f r s F G p q a b =
     value_unique f r s false (num r) (den r) F G (den_pos r) (own_value r p)
-    (same-value s false (num s) (den s) (num r) (den r) (den_pos s)
+    (same_value s false (num s) (den s) (num r) (den r) (den_pos s)
     (le_antisymm (meet (λ h. a (cross→lt r s p q h))) (meet (λ h. b (cross→lt s r q p h)))) (own_value s q))
   where
     meet : {u v : ℕ} → (u < v → ⊥) → v ≤ u
@@ -256,9 +256,9 @@ alone : (f : Format) (x r s : Float) → T (fits f r) → StrictRoot f x r → N
 alone f x r s F R S =
     same-positive f s r S.held F S.above_zero R.above_zero
     (λ l. lt_irrefl (sums s r * den x)
-    (lt_of_lt_of_le (R.from-below s S.held s_counted l) (rw (sums_comm s r, scale_comm s r) (S.from-above r F r_counted l))))
+    (lt_of_lt_of_le (R.from_below s S.held s_counted l) (rw (sums_comm s r, scale_comm s r) (S.from_above r F r_counted l))))
     (λ l. lt_irrefl (sums s r * den x)
-    (lt_of_le_of_lt (rw (sums_comm s r, scale_comm s r) (S.from-below r F r_counted l)) (R.from-above s S.held s_counted l)))
+    (lt_of_le_of_lt (rw (sums_comm s r, scale_comm s r) (S.from_below r F r_counted l)) (R.from_above s S.held s_counted l)))
   where
     r_counted : T (counted r)
     r_counted = positive-counted r R.above_zero
@@ -267,17 +267,17 @@ alone f x r s F R S =
     s_counted = positive-counted s S.above_zero
 
 -- whatever has the meaning of x's root is the one that `rootOf` computes
-pub root-alone : (f : Format) (x r : Float) → T (fits f x) → Root f x r → r ≡ root_of f x
+pub root_alone : (f : Format) (x r : Float) → T (fits f x) → Root f x r → r ≡ root_of f x
 unfolding Root root_of
-root-alone f nan r F h = h
-root-alone f (inf true) r F h = h
-root-alone f (inf false) r F h = h
-root-alone f (fin s zero e) r F h = h
-root-alone f (fin true (suc m) e) r F h = h
-root-alone f (fin false (suc m) e) r F h =
+root_alone f nan r F h = h
+root_alone f (inf true) r F h = h
+root_alone f (inf false) r F h = h
+root_alone f (fin s zero e) r F h = h
+root_alone f (fin true (suc m) e) r F h = h
+root_alone f (fin false (suc m) e) r F h =
     let x = fin false (suc m) e in
-    alone f x (root_of f x) r (root-fits f x F) (strict-root f m e F) h
+    alone f x (root_of f x) r (root-fits f x F) (strict_root f m e F) h
 
 -- so two values that both have it are equal
 pub root_unique : (f : Format) (x r s : Float) → T (fits f x) → Root f x r → Root f x s → r ≡ s
-root_unique f x r s F p q = root-alone f x r F p ∙ sym (root-alone f x s F q)
+root_unique f x r s F p q = root_alone f x r F p ∙ sym (root_alone f x s F q)

@@ -44,9 +44,9 @@ pub round_by : (f : Format) (s : Bool) (a c k : ℕ) → 0 < c → a * 2 ^ low f
 round_by f s a c k C hi lo =
     round_is f s a c ∙ ap (λ (z : ℕ). core f s (a * 2 ^ low f) c z) (drop_is (prec f) (a * 2 ^ low f) c k (two-le_pos (prec f) (two f)) C hi lo)
 
-pub units-over : (f : Format) (s : Bool) (q k : ℕ) → 2 ^ (low f + suc (emax f)) ≤ q * 2 ^ k → units f s q k ≡ inf s
+pub units_over : (f : Format) (s : Bool) (q k : ℕ) → 2 ^ (low f + suc (emax f)) ≤ q * 2 ^ k → units f s q k ≡ inf s
 unfolding units
-units-over f s q k h =
+units_over f s q k h =
     cond_no (ltb (q * 2 ^ k) (2 ^ (low f + suc (emax f)))) (odd (suc (prec f)) s q k (low f)) (inf s)
     (le→nltb (q * 2 ^ k) (2 ^ (low f + suc (emax f))) h)
 
@@ -105,8 +105,8 @@ parity q = of (q % 2) (mod-lt q (zero-lt-suc 1))
         over : (b : ℕ) → suc (suc b) < 2 → ⊥
         over b h = omega arith
 
-pub shift-closest : (m t : ℕ) → (m + (2 ^ t - 1) + m / 2 ^ suc t % 2) / 2 ^ suc t ≡ closest m (2 ^ suc t)
-shift-closest m t =
+pub shift_closest : (m t : ℕ) → (m + (2 ^ t - 1) + m / 2 ^ suc t % 2) / 2 ^ suc t ≡ closest m (2 ^ suc t)
+shift_closest m t =
     let u = 2 ^ suc t in
     let q = m / u in
     let r = m % u in
@@ -135,14 +135,14 @@ shift-closest m t =
     plus_none : (q x b : ℕ) → x ≡ 0 → b ≡ 0 → q + x ≡ q + b
     plus_none q x b e f = omega arith
 
-    plus-zero : (q x : ℕ) → x ≡ 0 → q + x ≡ q
-    plus-zero q x e = omega arith
+    plus_zero : (q x : ℕ) → x ≡ 0 → q + x ≡ q
+    plus_zero q x e = omega arith
 
     plus_one : (q x : ℕ) → x ≡ 1 → q + x ≡ suc q
     plus_one q x e = omega arith
 
     go : (q r h u : ℕ) (o : Ordering) → 0 < h → 0 < u → u ≡ 2 * h → r < u → Cmp o (r * 2) u → q + (r + (h - 1) + q % 2) / u ≡ nearest q o
-    go q r h u Ordering.lt H U e l c = plus-zero q ((r + (h - 1) + q % 2) / u) (div-eq_of_lt (low_part q r h u H e c))
+    go q r h u Ordering.lt H U e l c = plus_zero q ((r + (h - 1) + q % 2) / u) (div-eq_of_lt (low_part q r h u H e c))
     go q r h u Ordering.eq H U e l c = elim (parity q) [
       | inl z ↦ plus_none q ((r + (h - 1) + q % 2) / u) (q % 2) (div-eq_of_lt (tie_even q r h u H e c z)) z
       | inr o ↦ ap (λ (x : ℕ). q + x) (div_at_one (r + (h - 1) + q % 2) u U (tie_ge q r h u H e c o) (high_lt q r h u H e l) ∙ sym o)

@@ -98,17 +98,17 @@ eqb_is a b = go (compare a b)
     go Ordering.eq = refl
     go Ordering.gt = refl
 
-pos-less : (n : ℕ) → ltb 0 n ≡ is_less (signed true n)
-pos-less zero = refl
-pos-less (suc n) = is_true (ltb 0 (suc n)) (lt→ltb 0 (suc n) (zero-lt-suc n))
+pos_less : (n : ℕ) → ltb 0 n ≡ is_less (signed true n)
+pos_less zero = refl
+pos_less (suc n) = is_true (ltb 0 (suc n)) (lt→ltb 0 (suc n) (zero-lt-suc n))
 
-pos-more : (n : ℕ) → ltb 0 n ≡ is_more (signed false n)
-pos-more zero = refl
-pos-more (suc n) = is_true (ltb 0 (suc n)) (lt→ltb 0 (suc n) (zero-lt-suc n))
+pos_more : (n : ℕ) → ltb 0 n ≡ is_more (signed false n)
+pos_more zero = refl
+pos_more (suc n) = is_true (ltb 0 (suc n)) (lt→ltb 0 (suc n) (zero-lt-suc n))
 
-not-less : (n : ℕ) → false ≡ is_less (signed false n)
-not-less zero = refl
-not-less (suc n) = refl
+not_less : (n : ℕ) → false ≡ is_less (signed false n)
+not_less zero = refl
+not_less (suc n) = refl
 
 not_more : (n : ℕ) → false ≡ is_more (signed true n)
 not_more zero = refl
@@ -119,9 +119,9 @@ not_same s zero h = absurd (lt_irrefl 0 h)
 not_same true (suc n) h = refl
 not_same false (suc n) h = refl
 
-and-false : (t : Bool) → (t && false) ≡ false
-and-false true = refl
-and-false false = refl
+and_false : (t : Bool) → (t && false) ≡ false
+and_false true = refl
+and_false false = refl
 
 some_right : (a b : ℕ) → 0 < a + suc b
 some_right a b = omega arith
@@ -129,27 +129,27 @@ some_right a b = omega arith
 some_left : (a b : ℕ) → 0 < suc a + b
 some_left a b = omega arith
 
-both-none : (s : Bool) (a b : ℕ) → (eqb a b && eqb a 0) ≡ is_same (signed s (a + b))
-both-none s zero zero = refl
-both-none s zero (suc b) = ap (λ (t : Bool). t && true) (eqb-zero-suc b) ∙ sym (not_same s (0 + suc b) (some_right 0 b))
-both-none s (suc a) b =
-    ap (λ (t : Bool). eqb (suc a) b && t) (eqb-suc-zero a) ∙ and-false (eqb (suc a) b) ∙ sym (not_same s (suc a + b) (some_left a b))
+both_none : (s : Bool) (a b : ℕ) → (eqb a b && eqb a 0) ≡ is_same (signed s (a + b))
+both_none s zero zero = refl
+both_none s zero (suc b) = ap (λ (t : Bool). t && true) (eqb-zero-suc b) ∙ sym (not_same s (0 + suc b) (some_right 0 b))
+both_none s (suc a) b =
+    ap (λ (t : Bool). eqb (suc a) b && t) (eqb-suc-zero a) ∙ and_false (eqb (suc a) b) ∙ sym (not_same s (suc a + b) (some_left a b))
 
 below_is : (s : Bool) (a : ℕ) (t : Bool) (b : ℕ) → below s a t b ≡ is_less (ranked s a t b)
 below_is false a false b = ltb_is a b
-below_is false a true b = not-less (a + b)
-below_is true a false b = pos-less (a + b)
+below_is false a true b = not_less (a + b)
+below_is true a false b = pos_less (a + b)
 below_is true a true b = ltb_is b a
 
 above_is : (s : Bool) (a : ℕ) (t : Bool) (b : ℕ) → below t b s a ≡ is_more (ranked s a t b)
 above_is false a false b = gtb_is a b
-above_is false a true b = pos-more (b + a) ∙ ap (λ (n : ℕ). is_more (signed false n)) (add_comm b a)
+above_is false a true b = pos_more (b + a) ∙ ap (λ (n : ℕ). is_more (signed false n)) (add_comm b a)
 above_is true a false b = not_more (a + b)
 above_is true a true b = gtb_is b a
 
-and-true : (t : Bool) → (t && true) ≡ t
-and-true true = refl
-and-true false = refl
+and_true : (t : Bool) → (t && true) ≡ t
+and_true true = refl
+and_true false = refl
 
 same_back : (a b : ℕ) → eqb a b ≡ is_same (side_of (compare b a))
 same_back a b = go (compare b a) (cmp b a)
@@ -166,16 +166,16 @@ same_back a b = go (compare b a) (cmp b a)
     go Ordering.gt h = no (λ e. lt_irrefl b (subst (λ (x : ℕ). x < b) e h)) (λ e. e)
 
 level_is : (s : Bool) (a : ℕ) (t : Bool) (b : ℕ) → level s a t b ≡ is_same (ranked s a t b)
-level_is false a false b = and-true (eqb a b) ∙ eqb_is a b
-level_is false a true b = both-none false a b
-level_is true a false b = both-none true a b
-level_is true a true b = and-true (eqb a b) ∙ same_back a b
+level_is false a false b = and_true (eqb a b) ∙ eqb_is a b
+level_is false a true b = both_none false a b
+level_is true a false b = both_none true a b
+level_is true a true b = and_true (eqb a b) ∙ same_back a b
 
-level-back : (s : Bool) (a : ℕ) (t : Bool) (b : ℕ) → level t b s a ≡ is_same (ranked s a t b)
-level-back false a false b = and-true (eqb b a) ∙ same_back b a
-level-back false a true b = both-none false b a ∙ ap (λ (n : ℕ). is_same (signed false n)) (add_comm b a)
-level-back true a false b = both-none true b a ∙ ap (λ (n : ℕ). is_same (signed true n)) (add_comm b a)
-level-back true a true b = and-true (eqb b a) ∙ eqb_is b a
+level_back : (s : Bool) (a : ℕ) (t : Bool) (b : ℕ) → level t b s a ≡ is_same (ranked s a t b)
+level_back false a false b = and_true (eqb b a) ∙ same_back b a
+level_back false a true b = both_none false b a ∙ ap (λ (n : ℕ). is_same (signed false n)) (add_comm b a)
+level_back true a false b = both_none true b a ∙ ap (λ (n : ℕ). is_same (signed true n)) (add_comm b a)
+level_back true a true b = and_true (eqb b a) ∙ eqb_is b a
 
 -- ---- the comparisons of floats, by side
 
@@ -241,7 +241,7 @@ eq_turned (inf false) (fin t n d) = refl
 eq_turned (fin s m e) nan = refl
 eq_turned (fin s m e) (inf true) = refl
 eq_turned (fin s m e) (inf false) = refl
-eq_turned (fin s m e) (fin t n d) = level-back s (m * up e * down d) t (n * up d * down e)
+eq_turned (fin s m e) (fin t n d) = level_back s (m * up e * down d) t (n * up d * down e)
 
 pub le_is : (x y : Float) → le x y ≡ is_not_more (versus x y)
 unfolding le
@@ -259,37 +259,37 @@ is_not_apart same = true
 is_not_apart more = true
 is_not_apart apart = false
 
-ordered-signed : (s : Bool) (a : ℕ) → T (is_not_apart (signed s a))
-ordered-signed s zero = tt
-ordered-signed true (suc a) = tt
-ordered-signed false (suc a) = tt
+ordered_signed : (s : Bool) (a : ℕ) → T (is_not_apart (signed s a))
+ordered_signed s zero = tt
+ordered_signed true (suc a) = tt
+ordered_signed false (suc a) = tt
 
 ordered_of : (o : Ordering) → T (is_not_apart (side_of o))
 ordered_of Ordering.lt = tt
 ordered_of Ordering.eq = tt
 ordered_of Ordering.gt = tt
 
-ordered-ranked : (s : Bool) (a : ℕ) (t : Bool) (b : ℕ) → T (is_not_apart (ranked s a t b))
-ordered-ranked false a false b = ordered_of (compare a b)
-ordered-ranked false a true b = ordered-signed false (a + b)
-ordered-ranked true a false b = ordered-signed true (a + b)
-ordered-ranked true a true b = ordered_of (compare b a)
+ordered_ranked : (s : Bool) (a : ℕ) (t : Bool) (b : ℕ) → T (is_not_apart (ranked s a t b))
+ordered_ranked false a false b = ordered_of (compare a b)
+ordered_ranked false a true b = ordered_signed false (a + b)
+ordered_ranked true a false b = ordered_signed true (a + b)
+ordered_ranked true a true b = ordered_of (compare b a)
 
-pub ordered-versus : (x y : Float) → T (not (is_nan x)) → T (not (is_nan y)) → T (is_not_apart (versus x y))
+pub ordered_versus : (x y : Float) → T (not (is_nan x)) → T (not (is_nan y)) → T (is_not_apart (versus x y))
 unfolding is_nan
-ordered-versus nan y p q = absurd p
-ordered-versus (inf s) nan p q = absurd q
-ordered-versus (inf true) (inf true) p q = tt
-ordered-versus (inf true) (inf false) p q = tt
-ordered-versus (inf false) (inf true) p q = tt
-ordered-versus (inf false) (inf false) p q = tt
-ordered-versus (inf s) (fin t n d) p q = ordered-signed s 1
-ordered-versus (fin s m e) nan p q = absurd q
-ordered-versus (fin s m e) (inf t) p q = ordered-signed (not t) 1
-ordered-versus (fin s m e) (fin t n d) p q = ordered-ranked s (m * up e * down d) t (n * up d * down e)
+ordered_versus nan y p q = absurd p
+ordered_versus (inf s) nan p q = absurd q
+ordered_versus (inf true) (inf true) p q = tt
+ordered_versus (inf true) (inf false) p q = tt
+ordered_versus (inf false) (inf true) p q = tt
+ordered_versus (inf false) (inf false) p q = tt
+ordered_versus (inf s) (fin t n d) p q = ordered_signed s 1
+ordered_versus (fin s m e) nan p q = absurd q
+ordered_versus (fin s m e) (inf t) p q = ordered_signed (not t) 1
+ordered_versus (fin s m e) (fin t n d) p q = ordered_ranked s (m * up e * down d) t (n * up d * down e)
 
 pub le_not_lt : (x y : Float) → T (not (is_nan x)) → T (not (is_nan y)) → le x y ≡ not (lt y x)
-le_not_lt x y p q = le_is x y ∙ go (versus x y) (ordered-versus x y p q) ∙ sym (ap not (gt_is x y))
+le_not_lt x y p q = le_is x y ∙ go (versus x y) (ordered_versus x y p q) ∙ sym (ap not (gt_is x y))
   where
     go : (o : Side) → T (is_not_apart o) → is_not_more o ≡ not (is_more o)
     go less t = refl

@@ -22,10 +22,10 @@ use lib.Ieee.Positive.{num, den}
 pub cancel : (a b : ℕ) {c : ℕ} → 0 < c → a * c ≡ b * c → a ≡ b
 cancel a b {c} C e = sym (mul-div_cancel a C) ∙ ap (λ (z : ℕ). z / c) e ∙ mul-div_cancel b C
 
-pub same-value : (x : Float) (s : Bool) (a c a' c' : ℕ) → 0 < c → a * c' ≡ a' * c → HasValue x s a c → HasValue x s a' c'
-same-value nan s a c a' c' C e h = h
-same-value (inf t) s a c a' c' C e h = h
-same-value (fin t m d) s a c a' c' C e h = (
+pub same_value : (x : Float) (s : Bool) (a c a' c' : ℕ) → 0 < c → a * c' ≡ a' * c → HasValue x s a c → HasValue x s a' c'
+same_value nan s a c a' c' C e h = h
+same_value (inf t) s a c a' c' C e h = h
+same_value (fin t m d) s a c a' c' C e h = (
   h.0,
   cancel (m * up d * c') (a' * down d) C (mul_right_comm (m * up d) c' c ∙ ap (λ (z : ℕ). z * c') h.1
       ∙ mul_right_comm a (down d) c' ∙ ap (λ (z : ℕ). z * down d) e ∙ mul_right_comm a' c (down d)),

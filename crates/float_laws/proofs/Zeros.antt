@@ -11,9 +11,9 @@ use Rattle.float_laws.specs.Zeros.{unsigned_zero, SameNumber}
 use Rattle.float_laws.proofs.Rounding.{Cmp, cmp}
 use Rattle.float_laws.proofs.Sides.{side_of, signed, ranked, versus, is_less, is_same, is_not_more, lt_is, eq_is, le_is}
 
-pub both-zeros : SameNumber minus_zero32 zero32
+pub both_zeros : SameNumber minus_zero32 zero32
 unfolding of_bits unsigned_zero
-both-zeros = refl
+both_zeros = refl
 
 -- ---- a zero against ±b, and ±a against a zero
 from_zero : (b : ℕ) → side_of (compare 0 b) ≡ signed true b
@@ -34,48 +34,48 @@ to_zero a = go a (compare a 0) (cmp a 0)
     go zero Ordering.gt h = absurd (lt_irrefl 0 h)
     go (suc a) Ordering.gt h = refl
 
-zero-first : (s t : Bool) (b : ℕ) → ranked false 0 t b ≡ ranked s 0 t b
-zero-first false t b = refl
-zero-first true false b = rw (zero-add b) (from_zero b)
-zero-first true true b = rw (zero-add b) (sym (to_zero b))
+zero_first : (s t : Bool) (b : ℕ) → ranked false 0 t b ≡ ranked s 0 t b
+zero_first false t b = refl
+zero_first true false b = rw (zero-add b) (from_zero b)
+zero_first true true b = rw (zero-add b) (sym (to_zero b))
 
-zero-last : (s t : Bool) (a : ℕ) → ranked s a false 0 ≡ ranked s a t 0
-zero-last s false a = refl
-zero-last false true a = rw (add-zero a) (to_zero a)
-zero-last true true a = rw (add-zero a) (sym (from_zero a))
+zero_last : (s t : Bool) (a : ℕ) → ranked s a false 0 ≡ ranked s a t 0
+zero_last s false a = refl
+zero_last false true a = rw (add-zero a) (to_zero a)
+zero_last true true a = rw (add-zero a) (sym (from_zero a))
 
-unsigned-first : (x y : Float) → versus (unsigned_zero x) y ≡ versus x y
+unsigned_first : (x y : Float) → versus (unsigned_zero x) y ≡ versus x y
 unfolding unsigned_zero
-unsigned-first nan y = refl
-unsigned-first (inf s) y = refl
-unsigned-first (fin s (suc m) e) y = refl
-unsigned-first (fin s zero e) nan = refl
-unsigned-first (fin s zero e) (inf t) = refl
-unsigned-first (fin s zero e) (fin t n d) = rw (zero-mul (up e), zero-mul (down d)) (zero-first s t (n * up d * down e))
+unsigned_first nan y = refl
+unsigned_first (inf s) y = refl
+unsigned_first (fin s (suc m) e) y = refl
+unsigned_first (fin s zero e) nan = refl
+unsigned_first (fin s zero e) (inf t) = refl
+unsigned_first (fin s zero e) (fin t n d) = rw (zero-mul (up e), zero-mul (down d)) (zero_first s t (n * up d * down e))
 
-unsigned-last : (x y : Float) → versus x (unsigned_zero y) ≡ versus x y
+unsigned_last : (x y : Float) → versus x (unsigned_zero y) ≡ versus x y
 unfolding unsigned_zero
-unsigned-last x nan = refl
-unsigned-last x (inf s) = refl
-unsigned-last x (fin t (suc n) d) = refl
-unsigned-last nan (fin t zero d) = refl
-unsigned-last (inf s) (fin t zero d) = refl
-unsigned-last (fin s m e) (fin t zero d) = rw (zero-mul (up d), zero-mul (down e)) (zero-last s t (m * up e * down d))
+unsigned_last x nan = refl
+unsigned_last x (inf s) = refl
+unsigned_last x (fin t (suc n) d) = refl
+unsigned_last nan (fin t zero d) = refl
+unsigned_last (inf s) (fin t zero d) = refl
+unsigned_last (fin s m e) (fin t zero d) = rw (zero-mul (up d), zero-mul (down e)) (zero_last s t (m * up e * down d))
 
 unsigned : (x y : Float) → versus (unsigned_zero x) (unsigned_zero y) ≡ versus x y
-unsigned x y = unsigned-first x (unsigned_zero y) ∙ unsigned-last x y
+unsigned x y = unsigned_first x (unsigned_zero y) ∙ unsigned_last x y
 
-versus-alike : (x y x₁ y₁ : Float) → SameNumber x x₁ → SameNumber y y₁ → versus x y ≡ versus x₁ y₁
-versus-alike x y x₁ y₁ p q = sym (unsigned x y) ∙ rw (p, q) (unsigned x₁ y₁)
+versus_alike : (x y x₁ y₁ : Float) → SameNumber x x₁ → SameNumber y y₁ → versus x y ≡ versus x₁ y₁
+versus_alike x y x₁ y₁ p q = sym (unsigned x y) ∙ rw (p, q) (unsigned x₁ y₁)
 
 pub lt_alike : (x y x₁ y₁ : Float) → SameNumber x x₁ → SameNumber y y₁ → lt x y ≡ lt x₁ y₁
-lt_alike x y x₁ y₁ p q = lt_is x y ∙ ap is_less (versus-alike x y x₁ y₁ p q) ∙ sym (lt_is x₁ y₁)
+lt_alike x y x₁ y₁ p q = lt_is x y ∙ ap is_less (versus_alike x y x₁ y₁ p q) ∙ sym (lt_is x₁ y₁)
 
 pub eq_alike : (x y x₁ y₁ : Float) → SameNumber x x₁ → SameNumber y y₁ → eq x y ≡ eq x₁ y₁
-eq_alike x y x₁ y₁ p q = eq_is x y ∙ ap is_same (versus-alike x y x₁ y₁ p q) ∙ sym (eq_is x₁ y₁)
+eq_alike x y x₁ y₁ p q = eq_is x y ∙ ap is_same (versus_alike x y x₁ y₁ p q) ∙ sym (eq_is x₁ y₁)
 
 pub le_alike : (x y x₁ y₁ : Float) → SameNumber x x₁ → SameNumber y y₁ → le x y ≡ le x₁ y₁
-le_alike x y x₁ y₁ p q = le_is x y ∙ ap is_not_more (versus-alike x y x₁ y₁ p q) ∙ sym (le_is x₁ y₁)
+le_alike x y x₁ y₁ p q = le_is x y ∙ ap is_not_more (versus_alike x y x₁ y₁ p q) ∙ sym (le_is x₁ y₁)
 
 unsigned-finite : (x : Float) → finite (unsigned_zero x) ≡ finite x
 unfolding unsigned_zero

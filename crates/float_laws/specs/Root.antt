@@ -24,8 +24,8 @@ scale y r = den y * den r * (den y * den r)
 pub record NearestRoot (f : Format) (x r : Float) : Type 0 where
   pub held : T (fits f r)
   pub above_zero : T (positive r)
-  pub from-below : (y : Float) → T (fits f y) → T (counted y) → T (lt y r) → sums y r * den x ≤ 4 * num x * scale y r
-  pub from-above : (y : Float) → T (fits f y) → T (counted y) → T (lt r y) → 4 * num x * scale y r ≤ sums y r * den x
+  pub from_below : (y : Float) → T (fits f y) → T (counted y) → T (lt y r) → sums y r * den x ≤ 4 * num x * scale y r
+  pub from_above : (y : Float) → T (fits f y) → T (counted y) → T (lt r y) → 4 * num x * scale y r ≤ sums y r * den x
 
 -- r is x's square root in the format f, as IEEE 754 has it
 unfoldable pub Root : Format → Float → Float → Type 0

@@ -26,14 +26,14 @@ more_bytes bs l l₁ i next h e =
     ∙ ap (λ (k : List ℕ). sets l next (hex_of k)) (sym (drop-cons bs i 0 h))
 
 -- ---- a line
-pub length-line : (k : ℕ) (bs : List ℕ) → length (line_of k bs) ≡ 2 * length bs + 3
+pub length_line : (k : ℕ) (bs : List ℕ) → length (line_of k bs) ≡ 2 * length bs + 3
 unfolding line_of
-length-line k bs = simp length-append (omega (arith, length_hex bs))
+length_line k bs = simp length-append (omega (arith, length_hex bs))
 
 -- the kind, a space, the digits and a newline, one after the other
-pub stored-line : (k : ℕ) (bs l l₁ : List ℕ) (end : ℕ) → end ≡ 2 * length bs + 2 → l₁ ≡ sets (set (set l 0 (digit_of k)) 1 32) 2 (hex_of bs)
+pub stored_line : (k : ℕ) (bs l l₁ : List ℕ) (end : ℕ) → end ≡ 2 * length bs + 2 → l₁ ≡ sets (set (set l 0 (digit_of k)) 1 32) 2 (hex_of bs)
     → set l₁ end 10 ≡ sets l 0 (line_of k bs)
 unfolding line_of
-stored-line k bs l l₁ end z e =
+stored_line k bs l l₁ end z e =
     ap (λ (x : List ℕ). set x end 10) e
     ∙ sets_then (hex_of bs) (10 ∷ []) (set (set l 0 (digit_of k)) 1 32) 2 end (omega (arith, length_hex bs))

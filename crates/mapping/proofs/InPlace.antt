@@ -52,7 +52,7 @@ use denote.Triple.Call.{calls_from}
 use Rattle.point.specs.declared.Point.{Point}
 use Rattle.point.specs.contracts.Point as P
 use Rattle.point.proofs.Point.TheLaws as P'
-use Rattle.mapping.proofs.Upto.{upto, length-upto, upto_next, upto_all}
+use Rattle.mapping.proofs.Upto.{upto, length_upto, upto_next, upto_all}
 
 abbrev word : Ty
 word = ty_int w64
@@ -233,7 +233,7 @@ module _ (S : Declared) where
             lt = ltb-true i n less
 
             within : i < length (st i)
-            within = subst (λ (k : ℕ). i < k) (sym (length-upto f i xs)) lt
+            within = subst (λ (k : ℕ). i < k) (sym (length_upto f i xs)) lt
 
             p : Point
             p = get_or (st i) i nowhere

@@ -46,10 +46,10 @@ module _ (f : Point → Point) where
   all (suc i) [] h = refl
   all (suc i) (x ∷ l) h = ap (λ (m : List Float). x ∷ m) (all i l (le_of_suc-le-suc h))
 
-  pub whole-points : (l : List Float) → length l % 2 ≡ 0 → map_pairs l ≡ flat (map f (points_of l))
+  pub whole_points : (l : List Float) → length l % 2 ≡ 0 → map_pairs l ≡ flat (map f (points_of l))
   unfolding map_pairs flat points_of
-  whole-points [] h = refl
-  whole-points (x ∷ []) h = absurd (omega (arith, h))
-  whole-points (x ∷ y ∷ l) h =
+  whole_points [] h = refl
+  whole_points (x ∷ []) h = absurd (omega (arith, h))
+  whole_points (x ∷ y ∷ l) h =
       let p = f (record { x = x; y = y }) in
-      ap (λ (m : List Float). p.x ∷ p.y ∷ m) (whole-points l (omega (arith, h)))
+      ap (λ (m : List Float). p.x ∷ p.y ∷ m) (whole_points l (omega (arith, h)))

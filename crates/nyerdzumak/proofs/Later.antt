@@ -5,13 +5,13 @@ use Prim.Native.Nat.{ℕ, ◌≤◌}
 use native.Mathlib.Omega.{arith}
 use Rattle.date_table.specs.declared.Dated.TheVariants.{Date}
 use Rattle.date_table.specs.Table.{date_in, date_of}
-use Rattle.date_table.proofs.Dates.{answered-zero, later}
+use Rattle.date_table.proofs.Dates.{answered_zero, later}
 use Rattle.nyerdzumak.specs.Dates.{Asked, LaterIsNotEarlier}
 use Rattle.nyerdzumak.specs.Given.{first_or}
 
 dated : (l : List ℕ) (r d d₁ : ℕ) → Asked l r 0 d d₁ → (date_of l r ≡ Date (date_in l r)) × (d₁ ≡ date_in l r)
 dated l r d d₁ a =
-    let q = answered-zero l r a.number in
+    let q = answered_zero l r a.number in
     (q.0, a.date ∙ ap (λ (vs : List ℕ). first_or d vs) q.1)
 
 pub later_in_c : LaterIsNotEarlier

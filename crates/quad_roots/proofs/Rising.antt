@@ -6,7 +6,7 @@ use lib.Ieee.{Float, neg, lt, le, eq, of_bits}
 use lib.Ieee.Fits.{and_l, and_r}
 use lib.Ieee.Scale.{finite}
 use Rattle.float_laws.proofs.Apart.{apart}
-use Rattle.float_laws.proofs.Order.{finite-between, or_left}
+use Rattle.float_laws.proofs.Order.{finite_between, or_left}
 use Rattle.float_laws.specs.Formula.{◌⊘◌, zero32, one32, zero64}
 use Rattle.quad_roots.specs.declared.Divided.{Divided}
 use Rattle.quad_roots.specs.declared.Divided.TheVariants as D
@@ -42,13 +42,13 @@ divided_rising n d =
 inside-finite : (r : Float) → T (inside r) → T (finite r)
 unfolding le of_bits
 inside-finite r h =
-    finite-between zero32 r one32 tt tt
+    finite_between zero32 r one32 tt tt
     (or_left (lt zero32 r) (eq zero32 r) (and_l (lt zero32 r) (lt r one32) h))
     (or_left (lt r one32) (eq r one32) (and_r (lt zero32 r) (lt r one32) h))
 
-two-rising : (r s : Float) → T (inside r) → T (inside s) → Good (two_roots r s)
+two_rising : (r s : Float) → T (inside r) → T (inside s) → Good (two_roots r s)
 unfolding two_roots
-two-rising r s p q = go (lt s r) (eq r s) refl refl
+two_rising r s p q = go (lt s r) (eq r s) refl refl
   where
     go : (t u : Bool) → lt s r ≡ t → eq r s ≡ u → Good (cond t (Two s r) (cond u (One r) (Two r s)))
     go true u m e = (q, subst T (sym m) tt, p)
@@ -60,7 +60,7 @@ unfolding collected
 collected-rising D.None D.None p q = tt
 collected-rising D.None (D.One s) p q = q
 collected-rising (D.One r) D.None p q = p
-collected-rising (D.One r) (D.One s) p q = two-rising r s p q
+collected-rising (D.One r) (D.One s) p q = two_rising r s p q
 
 answered : (t u v : Bool) (x y : Roots) → Good x → Good y → Good (cond t x (cond u None (cond v y None)))
 answered true u v x y p q = p
@@ -68,9 +68,9 @@ answered false true v x y p q = tt
 answered false false true x y p q = q
 answered false false false x y p q = tt
 
-pub roots-rising : (a b c : Float) → Rising (values_of_roots (roots_of a b c))
+pub roots_rising : (a b c : Float) → Rising (values_of_roots (roots_of a b c))
 unfolding roots_of
-roots-rising a b c =
+roots_rising a b c =
     let dr = discriminant_of a b c in
     let r = root_of_discriminant dr in
     let q = q_of b r in

@@ -8,18 +8,18 @@ use Rattle.record_shapes.specs.Bits.{conic_of_bits, bits_of_conic, transform_of_
 use Rattle.record_shapes.specs.Each.{EachConicWord, EachTransformWord, map_conic_words, map_transform_words}
 use Rattle.record_shapes.specs.Laws.{ConicsComeBack, ExactConicsComeBack, TransformsComeBack}
 use Rattle.record_shapes.specs.Laws.{ConicBitsComeBack, TransformBitsComeBack, PlainConicBitsComeBack, PlainTransformBitsComeBack}
-use Rattle.record_shapes.proofs.Words.{floats-back, plain_back, words_back}
+use Rattle.record_shapes.proofs.Words.{floats_back, plain_back, words_back}
 
 pub conics_back : ConicsComeBack
 unfolding conic_of_bits bits_of_conic
 conics_back c h = rw (
-  floats-back c.p0.x h.0,
-  floats-back c.p0.y h.1,
-  floats-back c.p1.x h.2,
-  floats-back c.p1.y h.3,
-  floats-back c.p2.x h.4,
-  floats-back c.p2.y h.5,
-  floats-back c.weight h.6,
+  floats_back c.p0.x h.0,
+  floats_back c.p0.y h.1,
+  floats_back c.p1.x h.2,
+  floats_back c.p1.y h.3,
+  floats_back c.p2.x h.4,
+  floats_back c.p2.y h.5,
+  floats_back c.weight h.6,
 )
 
 pub exact_conics_back : ExactConicsComeBack
@@ -28,12 +28,12 @@ exact_conics_back c h e = conics_back c h ∙ rw (← e)
 pub transforms_back : TransformsComeBack
 unfolding transform_of_bits bits_of_transform
 transforms_back t h = rw (
-  floats-back t.sx h.0,
-  floats-back t.ky h.1,
-  floats-back t.kx h.2,
-  floats-back t.sy h.3,
-  floats-back t.tx h.4,
-  floats-back t.ty h.5,
+  floats_back t.sx h.0,
+  floats_back t.ky h.1,
+  floats_back t.kx h.2,
+  floats_back t.sy h.3,
+  floats_back t.tx h.4,
+  floats_back t.ty h.5,
 )
 
 -- ---- bits of which each word has P, where such a word comes back as f of it

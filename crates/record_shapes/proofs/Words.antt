@@ -7,17 +7,17 @@ use lib.Dec.{T}
 use lib.Ieee.{Float, nan, binary32, nan_bits, of_bits, to_bits}
 use lib.Ieee.Bits.{of_bits-to_bits, to_bits-of_bits, nan_bits_is}
 use lib.Ieee.Compare.{differs_from_itself}
-use Rattle.float_laws.proofs.Squares.{nan-test}
+use Rattle.float_laws.proofs.Squares.{nan_test}
 use Rattle.record_shapes.specs.Each.{Plain}
 use Rattle.record_shapes.specs.Laws.{FloatsComeBack, WordsComeBack, NansComeBackAsOne}
 
-pub floats-back : FloatsComeBack
-floats-back = of_bits-to_bits binary32
+pub floats_back : FloatsComeBack
+floats_back = of_bits-to_bits binary32
 
 pub reads_nan : (n : ℕ) → T (nan_bits binary32 n) → of_bits binary32 n ≡ nan
 reads_nan n t =
     let x = of_bits binary32 n in
-    differs_from_itself x (subst T (nan_bits_is binary32 n ∙ sym (nan-test x)) t)
+    differs_from_itself x (subst T (nan_bits_is binary32 n ∙ sym (nan_test x)) t)
 
 pub writes_nan : (x : Float) → x ≡ nan → to_bits binary32 x ≡ 2143289344
 unfolding to_bits

@@ -21,14 +21,14 @@ use Rattle.records.specs.Writing.{stored_over}
 use Rattle.records.proofs.Counts.{at_most}
 use Rattle.records.proofs.First.{at_most_34, read_first}
 use Rattle.records.proofs.Judged.{forward, small, unknown, other, left_to_judge}
-use Rattle.records.proofs.Moved.{nothing-before}
+use Rattle.records.proofs.Moved.{nothing_before}
 use Rattle.records.proofs.Patterns.{word-take, half-take, words_take, length_is}
 use Rattle.records.proofs.Stores.{to, stored_is, before}
 use Rattle.records.proofs.There.{there}
 
 -- where the rest begins with its bytes
 read_here : (s q : List ℕ) (at : ℕ) (r : Record) → Fits r → drop at s ≡ bytes_of r ++ q → read_of s at ≡ Whole r (at + length (bytes_of r))
-read_here s q at r fit e = nothing-before s at ∙ ap (λ (t : List ℕ). moved at (read_of t 0)) e ∙ ap (moved at) (read_first r fit q)
+read_here s q at r fit e = nothing_before s at ∙ ap (λ (t : List ℕ). moved at (read_of t 0)) e ∙ ap (moved at) (read_first r fit q)
 
 pub read_back : ReadBack
 read_back p q r fit = read_here (p ++ (bytes_of r ++ q)) q (length p) r fit (drop-append_seam p (bytes_of r ++ q))
@@ -43,14 +43,14 @@ written_is_read l at next r fit made =
     ∙ drop-append_seam (take at l) (b ++ drop next l) in
     read_here s (drop next l) at r fit d ∙ ap (Whole r) (sym (to l b at next made))
 
-pub read-stands_there : ReadStandsThere
-read-stands_there s at next r b got = there s at next r b got
+pub read_stands_there : ReadStandsThere
+read_stands_there s at next r b got = there s at next r b got
 
-pub nothing-before_is_read : NothingBefore
-nothing-before_is_read s at = nothing-before s at
+pub nothing_before_is_read : NothingBefore
+nothing_before_is_read s at = nothing_before s at
 
-pub nothing-behind_is_read : NothingBehind
-nothing-behind_is_read s t at to next r b got same =
+pub nothing_behind_is_read : NothingBehind
+nothing_behind_is_read s t at to next r b got same =
     let m = next - at in
     let k = there s at next r b got in
     let l : length (bytes_of r) ≡ m = ap length k.0 ∙ length-take-le m (drop at s) (omega (arith, length-drop at s, forward s at r next got)) in
@@ -113,11 +113,11 @@ unmoved d place why End e = (0, cc)
 unmoved d place why Short e = (0, cc)
 unmoved d place why (Refused w q) e = (q, cc)
 
-pub nothing-behind_its_kind : NothingBehindItsKind
-nothing-behind_its_kind s t at to place why e same =
-    let q = unmoved at place why (read_of (drop at s) 0) (sym (nothing-before s at) ∙ e) in
+pub nothing_behind_its_kind : NothingBehindItsKind
+nothing_behind_its_kind s t at to place why e same =
+    let q = unmoved at place why (read_of (drop at s) 0) (sym (nothing_before s at) ∙ e) in
     let z : to + 0 ≡ to = omega arith in
-    nothing-before t to ∙ ap (moved to) (refused (drop at s) (drop to t) same why q.0 q.1) ∙ ap (Refused why) z
+    nothing_before t to ∙ ap (moved to) (refused (drop at s) (drop to t) same why q.0 q.1) ∙ ap (Refused why) z
 
 -- ---- 34 bytes decide
 pub thirty_four_at_most : ThirtyFourAtMost

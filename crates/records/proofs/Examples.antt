@@ -31,9 +31,9 @@ small : read_of (1 ∷ 0 ∷ 0 ∷ 0 ∷ []) 0 ≡ Refused BadLength 0
 unfolding read_of word half count_of length_of record_of words_at
 small = refl
 
-small-first : read_of (1 ∷ 0 ∷ 0 ∷ 0 ∷ 4 ∷ 0 ∷ []) 0 ≡ Refused BadLength 0
+small_first : read_of (1 ∷ 0 ∷ 0 ∷ 0 ∷ 4 ∷ 0 ∷ []) 0 ≡ Refused BadLength 0
 unfolding read_of word half count_of length_of record_of words_at
-small-first = refl
+small_first = refl
 
 unknown : read_of (9 ∷ 0 ∷ 0 ∷ 0 ∷ 4 ∷ 0 ∷ []) 0 ≡ Refused UnknownKind 0
 unfolding read_of word half count_of length_of record_of words_at

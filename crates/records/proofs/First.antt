@@ -16,8 +16,8 @@ use Rattle.records.specs.Reading.{read_of}
 use Rattle.records.specs.Record.{kind_of, words_of, count_of, record_of, length_of, bytes_for, bytes_of, Fits, words_over}
 use Rattle.records.specs.Writing.{stored_answer, stored_over, write_answer, written_over, bytes_with, words_answer, words_written}
 use Rattle.records.proofs.Judged.{at_end, no_length, no_kind, cut_off, whole}
-use Rattle.records.proofs.Patterns.{word-four, half-two, words-drop, word-take, half-take, length_is}
-use Rattle.records.proofs.Signed.{pattern-below, signed-pattern}
+use Rattle.records.proofs.Patterns.{word-four, half_two, words_drop, word-take, half-take, length_is}
+use Rattle.records.proofs.Signed.{pattern_below, signed_pattern}
 use Rattle.records.proofs.Stores.{length-bytes_for}
 
 -- ---- all that tells one kind from another
@@ -39,8 +39,8 @@ known (Correction z) fit =
       some = λ e. omega arith;
       few = omega arith;
       count = refl;
-      below = (pattern-below z fit, tt);
-      back = ap Correction (signed-pattern z fit);
+      below = (pattern_below z fit, tt);
+      back = ap Correction (signed_pattern z fit);
     }
 
 few_words : (r : Record) → length (words_of r) < 8
@@ -58,7 +58,7 @@ unfolding words_at fours four AllBelow
 words_back [] q h = refl
 words_back (w ∷ ws) q h =
     ap (λ (x : ℕ). x ∷ words_at (four w ++ (fours ws ++ q)) 4 (length ws)) (word-four w (fours ws ++ q) h.0)
-    ∙ ap (λ (l : List ℕ). w ∷ l) (sym (words-drop (four w ++ (fours ws ++ q)) 4 0 (length ws)) ∙ words_back ws q h.1)
+    ∙ ap (λ (l : List ℕ). w ∷ l) (sym (words_drop (four w ++ (fours ws ++ q)) 4 0 (length ws)) ∙ words_back ws q h.1)
 
 -- ---- the length and the kind at the start, whatever follows, and the words behind them
 head_kind : (f k : ℕ) (t : List ℕ) → k < 65536 → half (four f ++ (two k ++ t)) 4 ≡ k
@@ -67,7 +67,7 @@ head_kind f k t h = omega arith
 
 head_words : (f k : ℕ) (ws q : List ℕ) → AllBelow ws → words_at (four f ++ (two k ++ (fours ws ++ q))) 6 (length ws) ≡ ws
 unfolding four two
-head_words f k ws q h = sym (words-drop (four f ++ (two k ++ (fours ws ++ q))) 6 0 (length ws)) ∙ words_back ws q h
+head_words f k ws q h = sym (words_drop (four f ++ (two k ++ (fours ws ++ q))) 6 0 (length ws)) ∙ words_back ws q h
 
 module _ (r : Record) (fit : Fits r) where
   k : Known r
@@ -100,9 +100,9 @@ module _ (r : Record) (fit : Fits r) where
       ∙ ap (Whole r) (sym z)
 
   -- its first m bytes are not all of it
-  pub cut-first : (m : ℕ) → m < length (bytes_of r) → read_of (take m (bytes_of r)) 0 ≡ cond (eqb m 0) End Short
+  pub cut_first : (m : ℕ) → m < length (bytes_of r) → read_of (take m (bytes_of r)) 0 ≡ cond (eqb m 0) End Short
   unfolding bytes_of bytes_for
-  cut-first m h = go (eqb m 0) refl
+  cut_first m h = go (eqb m 0) refl
     where
       s : List ℕ
       s = take m (bytes_of r)
@@ -143,9 +143,9 @@ module _ (l z : List ℕ) (at : ℕ) (r : Record) (fit : Fits r) (k : ℕ) (ws :
       ∙ ap (λ (x : List ℕ). bytes_for (kind_of r) (take (count_of (kind_of r)) x)) words
       ∙ ap (bytes_for (kind_of r)) front
 
-  known-kind : eqb (count_of k) 0 ≡ false
-  known-kind = ne_eqb (count_of k) 0 (λ e. (known r fit).some ((known r fit).count ∙ sym (ap count_of kind) ∙ e))
+  known_kind : eqb (count_of k) 0 ≡ false
+  known_kind = ne_eqb (count_of k) 0 (λ e. (known r fit).some ((known r fit).count ∙ sym (ap count_of kind) ∙ e))
 
   pub by_words : (words_answer l at k ws ≡ write_answer l at r) × (words_written l at k ws ≡ written_over l at r)
   unfolding words_answer words_written stored_answer stored_over
-  by_words = (simp known-kind (ap (stored_answer l at) same_bytes), simp known-kind (ap (stored_over l at) same_bytes))
+  by_words = (simp known_kind (ap (stored_answer l at) same_bytes), simp known_kind (ap (stored_over l at) same_bytes))

@@ -25,11 +25,11 @@ one_more (suc f) s at h = go (λ next i. one_more f s next i) (read_of s at) ref
     go after Short e = refl
     go after (Refused why place) e = refl
 
-enough-and : (k f : ℕ) (s : List ℕ) (at : ℕ) → length s - at < f → read_up_to (k + f) s at ≡ read_up_to f s at
-enough-and zero f s at h = let z : 0 + f ≡ f = omega arith in ap (λ (n : ℕ). read_up_to n s at) z
-enough-and (suc k) f s at h =
+enough_and : (k f : ℕ) (s : List ℕ) (at : ℕ) → length s - at < f → read_up_to (k + f) s at ≡ read_up_to f s at
+enough_and zero f s at h = let z : 0 + f ≡ f = omega arith in ap (λ (n : ℕ). read_up_to n s at) z
+enough_and (suc k) f s at h =
     let z : suc k + f ≡ suc (k + f) = omega arith in
-    ap (λ (n : ℕ). read_up_to n s at) z ∙ one_more (k + f) s at (omega arith) ∙ enough-and k f s at h
+    ap (λ (n : ℕ). read_up_to n s at) z ∙ one_more (k + f) s at (omega arith) ∙ enough_and k f s at h
 
 -- any bound that is enough is as good as another
 pub enough : (f : ℕ) (s : List ℕ) (at : ℕ) → length s - at < f → read_up_to f s at ≡ read_from s at
@@ -39,8 +39,8 @@ enough f s at h =
     let y : f ≡ (f - m) + m = omega arith in
     let z : suc (length s) ≡ (suc (length s) - m) + m = omega arith in
     ap (λ (n : ℕ). read_up_to n s at) y
-    ∙ enough-and (f - m) m s at (omega arith)
-    ∙ sym (ap (λ (n : ℕ). read_up_to n s at) z ∙ enough-and (suc (length s) - m) m s at (omega arith))
+    ∙ enough_and (f - m) m s at (omega arith)
+    ∙ sym (ap (λ (n : ℕ). read_up_to n s at) z ∙ enough_and (suc (length s) - m) m s at (omega arith))
 
 -- ---- what a whole record is followed by
 pub read_more : (s : List ℕ) (at : ℕ) (r : Record) (next : ℕ) → read_of s at ≡ Whole r next → read_from s at ≡ more r (read_from s next)
@@ -50,19 +50,19 @@ read_more s at r next h =
     ∙ ap (more r) (enough (length s) s next (omega (arith, forward s at r next h)))
 
 -- and where there is none
-pub read-end : (s : List ℕ) (at : ℕ) → read_of s at ≡ End → read_from s at ≡ none at End
+pub read_end : (s : List ℕ) (at : ℕ) → read_of s at ≡ End → read_from s at ≡ none at End
 unfolding read_from read_up_to read_on
-read-end s at h = ap (read_on (λ n. read_up_to (length s) s n) at) h
+read_end s at h = ap (read_on (λ n. read_up_to (length s) s n) at) h
 
 pub read_short : (s : List ℕ) (at : ℕ) → read_of s at ≡ Short → read_from s at ≡ none at Short
 unfolding read_from read_up_to read_on
 read_short s at h = ap (read_on (λ n. read_up_to (length s) s n) at) h
 
-pub read-refused : (s : List ℕ) (at : ℕ) (why : Refusal) (place : ℕ) → read_of s at ≡ Refused why place → read_from s at ≡ none at (Refused why place)
+pub read_refused : (s : List ℕ) (at : ℕ) (why : Refusal) (place : ℕ) → read_of s at ≡ Refused why place → read_from s at ≡ none at (Refused why place)
 unfolding read_from read_up_to read_on
-read-refused s at why place h = ap (read_on (λ n. read_up_to (length s) s n) at) h
+read_refused s at why place h = ap (read_on (λ n. read_up_to (length s) s n) at) h
 
 -- at the end or in a record that is cut off
-pub read-stop : (s : List ℕ) (at : ℕ) (b : Bool) → read_of s at ≡ cond b End Short → read_from s at ≡ none at (cond b End Short)
-read-stop s at true h = read-end s at h
-read-stop s at false h = read_short s at h
+pub read_stop : (s : List ℕ) (at : ℕ) (b : Bool) → read_of s at ≡ cond b End Short → read_from s at ≡ none at (cond b End Short)
+read_stop s at true h = read_end s at h
+read_stop s at false h = read_short s at h

@@ -131,17 +131,17 @@ forward s at r next e =
     (omega (arith, k.ends), omega (arith, k.ends, k.there, k.inside))
 
 -- ---- back: only the first answer is the end
-end-picked : (v : Record) (at to : ℕ) (b₁ b₂ b₃ b₄ b₅ b₆ b₇ : Bool)
+end_picked : (v : Record) (at to : ℕ) (b₁ b₂ b₃ b₄ b₅ b₆ b₇ : Bool)
     → cond b₁ End (cond b₂ Short (cond b₃ (Refused BadLength at) (cond b₄ Short (cond b₅ (Refused UnknownKind at) (cond b₆ (Refused BadLength at) (cond b₇ Short (Whole v to))))))) ≡ End
     → b₁ ≡ true
-end-picked v at to true b₂ b₃ b₄ b₅ b₆ b₇ e = refl
-end-picked v at to false true b₃ b₄ b₅ b₆ b₇ e = cc
-end-picked v at to false false true b₄ b₅ b₆ b₇ e = cc
-end-picked v at to false false false true b₅ b₆ b₇ e = cc
-end-picked v at to false false false false true b₆ b₇ e = cc
-end-picked v at to false false false false false true b₇ e = cc
-end-picked v at to false false false false false false true e = cc
-end-picked v at to false false false false false false false e = cc
+end_picked v at to true b₂ b₃ b₄ b₅ b₆ b₇ e = refl
+end_picked v at to false true b₃ b₄ b₅ b₆ b₇ e = cc
+end_picked v at to false false true b₄ b₅ b₆ b₇ e = cc
+end_picked v at to false false false true b₅ b₆ b₇ e = cc
+end_picked v at to false false false false true b₆ b₇ e = cc
+end_picked v at to false false false false false true b₇ e = cc
+end_picked v at to false false false false false false true e = cc
+end_picked v at to false false false false false false false e = cc
 
 pub none_left : (s : List ℕ) (at : ℕ) → read_of s at ≡ End → length s ≤ at
 unfolding read_of
@@ -149,5 +149,5 @@ none_left s at e =
     let k = half s (at + 4) in
     let n = count_of k in
     leb-true (length s) at
-    (end-picked (record_of k (words_at s (at + 6) n)) at (at + 4 + word s at) (leb (length s) at) (ltb (length s - at) 4) (ltb (word s at) 2)
+    (end_picked (record_of k (words_at s (at + 6) n)) at (at + 4 + word s at) (leb (length s) at) (ltb (length s - at) 4) (ltb (word s at) 2)
     (ltb (length s - at) 6) (eqb n 0) (not (eqb (word s at) (length_of n))) (ltb (length s - at) (4 + word s at)) e)

@@ -19,9 +19,9 @@ use Rattle.records.specs.Reading.{read_of, Reading, none, more, read_from, read_
 use Rattle.records.specs.Record.{bytes_of, journal_of, Fits, AllFit}
 use Rattle.records.specs.Writing.{stored_over, write_all}
 use Rattle.records.proofs.Cuts.{journal_then, journal_append, uncut}
-use Rattle.records.proofs.Journals.{read_more, read-end, read_short, read-refused}
+use Rattle.records.proofs.Journals.{read_more, read_end, read_short, read_refused}
 use Rattle.records.proofs.Judged.{forward, none_left}
-use Rattle.records.proofs.Moved.{read-rest}
+use Rattle.records.proofs.Moved.{read_rest}
 use Rattle.records.proofs.Stores.{sets_then, to, before, up_to_it}
 use Rattle.records.proofs.There.{there}
 
@@ -36,15 +36,15 @@ no_records : (s : List ℕ) (f : Found) → (f ≡ End → 0 ≡ length s) → T
 unfolding journal_of AllFit
 no_records s f e = record { bytes = refl; fit = tt; inside = omega arith; ends = e }
 
-moved-end : (d : ℕ) (f : Found) → moved d f ≡ End → f ≡ End
-moved-end d (Whole r next) e = cc
-moved-end d End e = refl
-moved-end d Short e = cc
-moved-end d (Refused why at) e = cc
+moved_end : (d : ℕ) (f : Found) → moved d f ≡ End → f ≡ End
+moved_end d (Whole r next) e = cc
+moved_end d End e = refl
+moved_end d Short e = cc
+moved_end d (Refused why at) e = cc
 
-rest-bytes : (s : List ℕ) (n : ℕ) → Bytes s → Bytes (drop n s)
+rest_bytes : (s : List ℕ) (n : ℕ) → Bytes s → Bytes (drop n s)
 unfolding Bytes
-rest-bytes s n h i = let e = get_or-drop n s i 0 in omega (arith, h (n + i), e)
+rest_bytes s n h i = let e = get_or-drop n s i 0 in omega (arith, h (n + i), e)
 
 -- a record, and what is known of the rest
 one_more : (s : List ℕ) (r : Record) (next : ℕ) (a : Reading) → Bytes s → read_of s 0 ≡ Whole r next → Told (drop next s) a → Told s (more r (behind [] next a))
@@ -60,25 +60,25 @@ one_more s r next a h e t =
           ∙ sym (take-add next a.place s);
       fit = ((there s 0 next r h e).1, t.fit);
       inside = omega (arith, t.inside);
-      ends = λ m. omega (arith, t.ends (moved-end next a.stop m));
+      ends = λ m. omega (arith, t.ends (moved_end next a.stop m));
     }
 
-told-up_to : (g : ℕ) (s : List ℕ) → length s < g → Bytes s → Told s (read_all s)
+told_up_to : (g : ℕ) (s : List ℕ) → length s < g → Bytes s → Told s (read_all s)
 unfolding read_all
-told-up_to zero s h b = absurd (omega arith)
-told-up_to (suc g) s h b = go (λ t i c. told-up_to g t i c) (read_of s 0) refl
+told_up_to zero s h b = absurd (omega arith)
+told_up_to (suc g) s h b = go (λ t i c. told_up_to g t i c) (read_of s 0) refl
   where
     go : ((t : List ℕ) → length t < g → Bytes t → Told t (read_all t)) → (a : Found) → read_of s 0 ≡ a → Told s (read_from s 0)
     go on (Whole r next) e =
         let d : length (drop next s) < g = omega (arith, length-drop next s, forward s 0 r next e) in
-        subst (Told s) (sym (read_more s 0 r next e ∙ ap (more r) (read-rest s next)))
-        (one_more s r next (read_all (drop next s)) b e (on (drop next s) d (rest-bytes s next b)))
-    go on End e = subst (Told s) (sym (read-end s 0 e)) (no_records s End (λ _. omega (arith, none_left s 0 e)))
+        subst (Told s) (sym (read_more s 0 r next e ∙ ap (more r) (read_rest s next)))
+        (one_more s r next (read_all (drop next s)) b e (on (drop next s) d (rest_bytes s next b)))
+    go on End e = subst (Told s) (sym (read_end s 0 e)) (no_records s End (λ _. omega (arith, none_left s 0 e)))
     go on Short e = subst (Told s) (sym (read_short s 0 e)) (no_records s Short (λ z. cc))
-    go on (Refused why at) e = subst (Told s) (sym (read-refused s 0 why at e)) (no_records s (Refused why at) (λ z. cc))
+    go on (Refused why at) e = subst (Told s) (sym (read_refused s 0 why at e)) (no_records s (Refused why at) (λ z. cc))
 
 told : (s : List ℕ) → Bytes s → Told s (read_all s)
-told s b = told-up_to (suc (length s)) s (omega arith) b
+told s b = told_up_to (suc (length s)) s (omega arith) b
 
 pub restored : Restored
 restored s b = (told s b).bytes
@@ -95,22 +95,22 @@ both_are_read s t b e =
     ∙ ap (λ (l : List ℕ). behind (read_all s).records (length l) (read_all t)) j
 
 -- ---- written one behind the other
-write-all : (rs : List Record) (l : List ℕ) (at : ℕ) → at + length (journal_of rs) ≤ length l → write_all l at rs ≡ sets l at (journal_of rs)
+write_all_lem : (rs : List Record) (l : List ℕ) (at : ℕ) → at + length (journal_of rs) ≤ length l → write_all l at rs ≡ sets l at (journal_of rs)
 unfolding write_all journal_of stored_over
-write-all [] l at h = refl
-write-all (r ∷ rs) l at h =
+write_all_lem [] l at h = refl
+write_all_lem (r ∷ rs) l at h =
     let b = bytes_of r in
     let n = length-append b (journal_of rs) in
     let e : stored_over l at b ≡ sets l at b = simp (le-leb (at + length b) (length l) (omega arith)) in
     ap (λ (x : List ℕ). write_all x (at + length b) rs) e
-    ∙ write-all rs (sets l at b) (at + length b) (omega (arith, length-sets l at b))
+    ∙ write_all_lem rs (sets l at b) (at + length b) (omega (arith, length-sets l at b))
     ∙ sets_then b (journal_of rs) l at (at + length b) refl
 
 -- by which the first bytes of the buffer are their journal
 written_all : (rs : List Record) (s l : List ℕ) → journal_of rs ≡ s → length s ≤ length l → take (length s) (write_all l 0 rs) ≡ s
 written_all rs s l j h =
     let n : 0 + length (journal_of rs) ≤ length l = omega (arith, ap length j) in
-    ap (take (length s)) (write-all rs l 0 n ∙ ap (sets l 0) j ∙ sets-eq s l 0 (omega arith)) ∙ take_at s (drop (0 + length s) l) (length s) refl
+    ap (take (length s)) (write_all_lem rs l 0 n ∙ ap (sets l 0) j ∙ sets-eq s l 0 (omega arith)) ∙ take_at s (drop (0 + length s) l) (length s) refl
 
 pub restored_by_writing : RestoredByWriting
 restored_by_writing s l b e h = written_all (read_all s).records s l (all_of_it s b e) h
@@ -136,10 +136,10 @@ part_bytes l n h i = go (ltb i n) refl
     go true e = omega (arith, h i, get_or-take n l i 0 (ltb-true i n e))
     go false e = omega (arith, get_or-eq_default (take n l) 0 {n = i} (omega (arith, length-take n l, ltb-false i n e)))
 
-fit-one : (rs : List Record) (r : Record) → AllFit rs → Fits r → AllFit (rs ++ (r ∷ []))
+fit_one : (rs : List Record) (r : Record) → AllFit rs → Fits r → AllFit (rs ++ (r ∷ []))
 unfolding AllFit
-fit-one [] r fits fit = (fit, tt)
-fit-one (x ∷ rs) r fits fit = (fits.0, fit-one rs r fits.1 fit)
+fit_one [] r fits fit = (fit, tt)
+fit_one (x ∷ rs) r fits fit = (fits.0, fit_one rs r fits.1 fit)
 
 pub writes_on : WritesOn
 unfolding end_of journal_of
@@ -161,4 +161,4 @@ writes_on l n at next r b fit e made =
     ∙ length-append (take at l) (bytes_of r)
     ∙ ap (λ (k : ℕ). k + length (bytes_of r)) (before l (bytes_of r) at next made)
     ∙ sym (to l (bytes_of r) at next made) in
-    ap read_all j ∙ uncut rs (fit-one a.records r t.fit fit) ∙ ap (λ (k : ℕ). exactly rs k End) z
+    ap read_all j ∙ uncut rs (fit_one a.records r t.fit fit) ∙ ap (λ (k : ℕ). exactly rs k End) z

@@ -18,7 +18,7 @@ use Rattle.records.specs.Numbers.{word, half, words_at}
 use Rattle.records.specs.Reading.{read_of, Reading, none, more, read_on, read_up_to, read_from, read_all}
 use Rattle.records.specs.Record.{count_of, record_of, length_of}
 use Rattle.records.proofs.Journals.{enough}
-use Rattle.records.proofs.Patterns.{word-drop, half-drop, words-drop}
+use Rattle.records.proofs.Patterns.{word-drop, half-drop, words_drop}
 
 -- ---- one record
 -- the answers, whatever the tests showed
@@ -41,9 +41,9 @@ none_left l at = go (leb l at) refl
     go true e = sym (le-leb (l - at) 0 (omega (arith, leb-true l at e)))
     go false e = sym (lt-leb (l - at) 0 (omega (arith, leb-false l at e)))
 
-pub nothing-before : (s : List ℕ) (at : ℕ) → read_of s at ≡ moved at (read_of (drop at s) 0)
+pub nothing_before : (s : List ℕ) (at : ℕ) → read_of s at ≡ moved at (read_of (drop at s) 0)
 unfolding read_of
-nothing-before s at =
+nothing_before s at =
     let t = drop at s in
     let k = half t 4 in
     let size = word t 0 in
@@ -52,7 +52,7 @@ nothing-before s at =
     let e₂ : leb (length t) 0 ≡ leb (length s) at = ap (λ (n : ℕ). leb n 0) (length-drop at s) ∙ sym (none_left (length s) at) in
     let e₃ : size ≡ word s at = word-drop s at 0 ∙ ap (word s) e₀ in
     let e₄ : k ≡ half s (at + 4) = half-drop s at 4 in
-    let e₅ : words_at t 6 (count_of (half s (at + 4))) ≡ words_at s (at + 6) (count_of (half s (at + 4))) = words-drop s at 6 (count_of (half s (at + 4))) in
+    let e₅ : words_at t 6 (count_of (half s (at + 4))) ≡ words_at s (at + 6) (count_of (half s (at + 4))) = words_drop s at 6 (count_of (half s (at + 4))) in
     let e₆ : at + (0 + 4 + word s at) ≡ at + 4 + word s at = omega arith in
     sym (sym (carried at (record_of k (words_at t 6 (count_of k))) (0 + 4 + size) (leb (length t) 0) (ltb (length t - 0) 4) (ltb size 2) (ltb (length t - 0) 6) (eqb (count_of k) 0)
     (not (eqb size (length_of (count_of k)))) (ltb (length t - 0) (4 + size)))
@@ -74,8 +74,8 @@ moved_nowhere (Refused why at) = let z : 0 + at ≡ at = omega arith in ap (Refu
 same : (rs : List Record) (p q : ℕ) (f g : Found) → p ≡ q → f ≡ g → ◌≡◌ {A = Reading} (record { records = rs; place = p; stop = f }) (record { records = rs; place = q; stop = g })
 same rs p q f g e h = cc
 
-pub behind-nothing : (a : Reading) → behind [] 0 a ≡ a
-behind-nothing a = same a.records (0 + a.place) a.place (moved 0 a.stop) a.stop (omega arith) (moved_nowhere a.stop)
+pub behind_nothing : (a : Reading) → behind [] 0 a ≡ a
+behind_nothing a = same a.records (0 + a.place) a.place (moved 0 a.stop) a.stop (omega arith) (moved_nowhere a.stop)
 
 -- some records, then others
 pub behind-behind : (r rs : List Record) (d e : ℕ) (a : Reading) → behind r d (behind rs e a) ≡ behind (r ++ rs) (d + e) a
@@ -84,14 +84,14 @@ behind-behind r rs d e a =
     ∙ same ((r ++ rs) ++ a.records) (d + (e + a.place)) (d + e + a.place) (moved d (moved e a.stop)) (moved (d + e) a.stop) (omega arith) (moved-moved d e a.stop)
 
 -- none, where there is an end or a record that is cut off
-pub behind-stop : (at : ℕ) (b : Bool) → behind [] at (none 0 (cond b End Short)) ≡ none at (cond b End Short)
-behind-stop at true = same [] (at + 0) at End End (omega arith) refl
-behind-stop at false = same [] (at + 0) at Short Short (omega arith) refl
+pub behind_stop : (at : ℕ) (b : Bool) → behind [] at (none 0 (cond b End Short)) ≡ none at (cond b End Short)
+behind_stop at true = same [] (at + 0) at End End (omega arith) refl
+behind_stop at false = same [] (at + 0) at Short Short (omega arith) refl
 
-up_to-moved : (f : ℕ) (s : List ℕ) (at : ℕ) → read_up_to f s at ≡ behind [] at (read_up_to f (drop at s) 0)
+up_to_moved : (f : ℕ) (s : List ℕ) (at : ℕ) → read_up_to f s at ≡ behind [] at (read_up_to f (drop at s) 0)
 unfolding read_up_to read_on
-up_to-moved zero s at = sym (behind-stop at true)
-up_to-moved (suc f) s at = ap (read_on (λ n. read_up_to f s n) at) (nothing-before s at) ∙ go (λ t n. up_to-moved f t n) (read_of (drop at s) 0)
+up_to_moved zero s at = sym (behind_stop at true)
+up_to_moved (suc f) s at = ap (read_on (λ n. read_up_to f s n) at) (nothing_before s at) ∙ go (λ t n. up_to_moved f t n) (read_of (drop at s) 0)
   where
     go : ((t : List ℕ) (n : ℕ) → read_up_to f t n ≡ behind [] n (read_up_to f (drop n t) 0)) → (a : Found)
         → read_on (λ n. read_up_to f s n) at (moved at a) ≡ behind [] at (read_on (λ n. read_up_to f (drop at s) n) 0 a)
@@ -101,13 +101,13 @@ up_to-moved (suc f) s at = ap (read_on (λ n. read_up_to f s n) at) (nothing-bef
         ∙ ap (λ (t : List ℕ). behind [] (at + next) (read_up_to f t 0)) (sym (drop-drop next at s))
         ∙ sym (behind-behind [] [] at next (read_up_to f (drop next (drop at s)) 0))
         ∙ ap (behind [] at) (sym (on (drop at s) next)))
-    go on End = sym (behind-stop at true)
-    go on Short = sym (behind-stop at false)
+    go on End = sym (behind_stop at true)
+    go on Short = sym (behind_stop at false)
     go on (Refused why place) =
         let z : at + 0 ≡ at = omega arith in
         sym (same [] (at + 0) at (Refused why (at + place)) (Refused why (at + place)) z refl)
 
 -- what is read from an offset on is what is read of the rest
-pub read-rest : (s : List ℕ) (at : ℕ) → read_from s at ≡ behind [] at (read_all (drop at s))
+pub read_rest : (s : List ℕ) (at : ℕ) → read_from s at ≡ behind [] at (read_all (drop at s))
 unfolding read_all read_from
-read-rest s at = up_to-moved (suc (length s)) s at ∙ ap (behind [] at) (enough (suc (length s)) (drop at s) 0 (omega (arith, length-drop at s)))
+read_rest s at = up_to_moved (suc (length s)) s at ∙ ap (behind [] at) (enough (suc (length s)) (drop at s) 0 (omega (arith, length-drop at s)))

@@ -10,10 +10,10 @@ use lib.Seq.{get_or-take, get_or-drop}
 use Rattle.records.specs.Numbers.{two, four, fours, half, word, words_at, Bytes, AllBelow}
 use Rattle.records.specs.Record.{length_of}
 
-pub all-below : (ws : List ℕ) → ((i : ℕ) → get_or ws i 0 < 4294967296) → AllBelow ws
+pub all_below : (ws : List ℕ) → ((i : ℕ) → get_or ws i 0 < 4294967296) → AllBelow ws
 unfolding AllBelow
-all-below [] h = tt
-all-below (w ∷ ws) h = (h 0, all-below ws (λ i. h (suc i)))
+all_below [] h = tt
+all_below (w ∷ ws) h = (h 0, all_below ws (λ i. h (suc i)))
 
 pub length_two : (k : ℕ) → length (two k) ≡ 2
 unfolding two
@@ -44,9 +44,9 @@ word-four w q h =
     let f : w % 256 + 256 * (w / 256) ≡ w = omega arith in
     omega arith
 
-pub half-two : (k : ℕ) (q : List ℕ) → k < 65536 → half (two k ++ q) 0 ≡ k
+pub half_two : (k : ℕ) (q : List ℕ) → k < 65536 → half (two k ++ q) 0 ≡ k
 unfolding half two
-half-two k q h = omega arith
+half_two k q h = omega arith
 
 -- ---- behind a prefix, and in a part
 pub word-drop : (s : List ℕ) (d at : ℕ) → word (drop d s) at ≡ word s (d + at)
@@ -61,13 +61,13 @@ pub half-drop : (s : List ℕ) (d at : ℕ) → half (drop d s) at ≡ half s (d
 unfolding half
 half-drop s d at = let e : d + at + 1 ≡ d + (at + 1) = omega arith in simp (get_or-drop, e)
 
-pub words-drop : (s : List ℕ) (d at n : ℕ) → words_at (drop d s) at n ≡ words_at s (d + at) n
+pub words_drop : (s : List ℕ) (d at n : ℕ) → words_at (drop d s) at n ≡ words_at s (d + at) n
 unfolding words_at
-words-drop s d at zero = refl
-words-drop s d at (suc n) =
+words_drop s d at zero = refl
+words_drop s d at (suc n) =
     let e : d + (at + 4) ≡ d + at + 4 = omega arith in
     ap (λ (w : ℕ). w ∷ words_at (drop d s) (at + 4) n) (word-drop s d at)
-    ∙ ap (λ (l : List ℕ). word s (d + at) ∷ l) (words-drop s d (at + 4) n ∙ ap (λ (k : ℕ). words_at s k n) e)
+    ∙ ap (λ (l : List ℕ). word s (d + at) ∷ l) (words_drop s d (at + 4) n ∙ ap (λ (k : ℕ). words_at s k n) e)
 
 module _ (m : ℕ) (s : List ℕ) where
   pub word-take : (at : ℕ) → at + 4 ≤ m → word (take m s) at ≡ word s at

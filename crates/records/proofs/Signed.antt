@@ -44,17 +44,17 @@ module _ (z : ℤ) (f : SFits w32 z) where
 
 -- ---- the number m below 2^31, as bits and back
 module _ (m : ℕ) (h : m < 2147483648) where
-  pub fits-back : T (non_neg (to_z w32 m)) × Fits w32 (nat_abs (to_z w32 m))
-  fits-back = rw (to_z_pos w32 m h) (tt, record { fits = omega arith })
+  pub fits_back : T (non_neg (to_z w32 m)) × Fits w32 (nat_abs (to_z w32 m))
+  fits_back = rw (to_z_pos w32 m h) (tt, record { fits = omega arith })
 
   pub back : nat_abs (to_z w32 m) ≡ m
   back = rw (to_z_pos w32 m h)
 
-  pub turned-fits : SFits w32 (negsuc 0 -ℤ to_z w32 m)
-  turned-fits = rw (to_z_pos w32 m h, turn m) (record { sfits = h })
+  pub turned_fits : SFits w32 (negsuc 0 -ℤ to_z w32 m)
+  turned_fits = rw (to_z_pos w32 m h, turn m) (record { sfits = h })
 
-  pub turned-back : to_z w32 (of_z w32 (negsuc 0 -ℤ to_z w32 m)) ≡ negsuc m
-  turned-back = rw (to_z_pos w32 m h, turn m) (to_z-of_z w32 (negsuc m) (record { sfits = h }))
+  pub turned_back : to_z w32 (of_z w32 (negsuc 0 -ℤ to_z w32 m)) ≡ negsuc m
+  turned_back = rw (to_z_pos w32 m h, turn m) (to_z-of_z w32 (negsuc m) (record { sfits = h }))
 
 -- ---- the number of the bits w
 pub low_half : (w : ℕ) → w < 2147483648 → to_z w32 w ≡ signed_of w
@@ -65,32 +65,32 @@ pub high_half : (w : ℕ) → 2147483648 ≤ w → w < 4294967296 → to_z w32 (
 unfolding signed_of
 high_half w h i =
     let z : 4294967295 - w ≡ 4294967296 - suc w = omega arith in
-    turned-back (4294967295 - w) (omega arith) ∙ ap negsuc z ∙ sym (simp (le-ltb w 2147483648 h))
+    turned_back (4294967295 - w) (omega arith) ∙ ap negsuc z ∙ sym (simp (le-ltb w 2147483648 h))
 
 -- ---- patterns and signed numbers, back and forth
-pub pattern-below : (z : ℤ) → SFits w32 z → pattern_of z < 4294967296
-pattern-below (pos n) f = omega (arith, f.sfits)
-pattern-below (negsuc n) f = omega (arith, f.sfits)
+pub pattern_below : (z : ℤ) → SFits w32 z → pattern_of z < 4294967296
+pattern_below (pos n) f = omega (arith, f.sfits)
+pattern_below (negsuc n) f = omega (arith, f.sfits)
 
-pub signed-pattern : (z : ℤ) → SFits w32 z → signed_of (pattern_of z) ≡ z
+pub signed_pattern : (z : ℤ) → SFits w32 z → signed_of (pattern_of z) ≡ z
 unfolding signed_of
-signed-pattern (pos n) f = simp (lt-ltb n 2147483648 f.sfits)
-signed-pattern (negsuc n) f =
+signed_pattern (pos n) f = simp (lt-ltb n 2147483648 f.sfits)
+signed_pattern (negsuc n) f =
     let h : n < 2147483648 = f.sfits in
     let e : 4294967296 - suc (4294967296 - suc n) ≡ n = omega arith in
     simp (le-ltb (4294967296 - suc n) 2147483648 (omega arith)) (ap negsuc e)
 
-pub signed-fits : (w : ℕ) → w < 4294967296 → SFits w32 (signed_of w)
+pub signed_fits : (w : ℕ) → w < 4294967296 → SFits w32 (signed_of w)
 unfolding signed_of
-signed-fits w h = go (ltb w 2147483648) refl
+signed_fits w h = go (ltb w 2147483648) refl
   where
     go : (b : Bool) → ltb w 2147483648 ≡ b → SFits w32 (cond b (pos w) (negsuc (4294967296 - suc w)))
     go true e = record { sfits = ltb-true w 2147483648 e }
     go false e = record { sfits = omega (arith, ltb-false w 2147483648 e) }
 
-pub pattern-signed : (w : ℕ) → w < 4294967296 → pattern_of (signed_of w) ≡ w
+pub pattern_signed : (w : ℕ) → w < 4294967296 → pattern_of (signed_of w) ≡ w
 unfolding signed_of
-pattern-signed w h = go (ltb w 2147483648) refl
+pattern_signed w h = go (ltb w 2147483648) refl
   where
     go : (b : Bool) → ltb w 2147483648 ≡ b → pattern_of (cond b (pos w) (negsuc (4294967296 - suc w))) ≡ w
     go true e = refl

@@ -23,22 +23,22 @@ pub sets_then : (a b l : List ℕ) (i j : ℕ) → j ≡ i + length a → sets (
 sets_then [] b l i j e = let z : j ≡ i = omega arith in ap (λ (k : ℕ). sets l k b) z
 sets_then (x ∷ a) b l i j e = sets_then a b (set l i x) (suc i) j (omega arith)
 
-pub stored-two : (l : List ℕ) (at b₀ b₁ : ℕ) → set (set l at b₀) (at + 1) b₁ ≡ sets l at (b₀ ∷ b₁ ∷ [])
-stored-two l at b₀ b₁ = simp add-one
+pub stored_two : (l : List ℕ) (at b₀ b₁ : ℕ) → set (set l at b₀) (at + 1) b₁ ≡ sets l at (b₀ ∷ b₁ ∷ [])
+stored_two l at b₀ b₁ = simp add-one
 
-pub stored-four : (l : List ℕ) (at b₀ b₁ b₂ b₃ : ℕ)
+pub stored_four : (l : List ℕ) (at b₀ b₁ b₂ b₃ : ℕ)
     → set (set (set (set l at b₀) (at + 1) b₁) (at + 2) b₂) (at + 3) b₃ ≡ sets l at (b₀ ∷ b₁ ∷ b₂ ∷ b₃ ∷ [])
-stored-four l at b₀ b₁ b₂ b₃ =
+stored_four l at b₀ b₁ b₂ b₃ =
     let e₁ : at + 1 ≡ suc at = omega arith in
     let e₂ : at + 2 ≡ suc (suc at) = omega arith in
     let e₃ : at + 3 ≡ suc (suc (suc at)) = omega arith in
     simp (e₁, e₂, e₃)
 
 -- one word of those that are left
-pub more-words : (ws l l₁ : List ℕ) (i next : ℕ) → i < length ws → l₁ ≡ sets l next (four (get_or ws i 0))
+pub more_words : (ws l l₁ : List ℕ) (i next : ℕ) → i < length ws → l₁ ≡ sets l next (four (get_or ws i 0))
     → sets l₁ (next + 4) (fours (drop (i + 1) ws)) ≡ sets l next (fours (drop i ws))
 unfolding fours
-more-words ws l l₁ i next h e =
+more_words ws l l₁ i next h e =
     let z : i + 1 ≡ suc i = omega arith in
     let rest = fours (drop (suc i) ws) in
     ap (λ (k : ℕ). sets l₁ (next + 4) (fours (drop k ws))) z
@@ -51,10 +51,10 @@ unfolding bytes_for
 length-bytes_for k ws = simp (length-append, length-four, length_two, length-fours) (omega arith)
 
 -- the length, the kind and the words, one after the other
-pub stored-all : (k n : ℕ) (ws l l₁ l₂ l₃ : List ℕ) (at : ℕ) → n ≡ 2 + 4 * length ws → l₁ ≡ sets l at (four n) → l₂ ≡ sets l₁ (at + 4) (two k)
+pub stored_all : (k n : ℕ) (ws l l₁ l₂ l₃ : List ℕ) (at : ℕ) → n ≡ 2 + 4 * length ws → l₁ ≡ sets l at (four n) → l₂ ≡ sets l₁ (at + 4) (two k)
     → l₃ ≡ sets l₂ (at + 6) (fours ws) → l₃ ≡ sets l at (bytes_for k ws)
 unfolding bytes_for
-stored-all k n ws l l₁ l₂ l₃ at z e₁ e₂ e₃ =
+stored_all k n ws l l₁ l₂ l₃ at z e₁ e₂ e₃ =
     let f = four n in
     let m : n ≡ length_of (length ws) = omega (arith, length_is (length ws)) in
     e₃
@@ -121,11 +121,11 @@ module _ (l ws : List ℕ) (at k n : ℕ) (count : n ≡ count_of k) where
   part : take (n - 0) ws ≡ take (count_of k) ws
   part = let z : n - 0 ≡ count_of k = omega arith in ap (λ (m : ℕ). take m ws) z
 
-  pub some-kind : (n ≡ 0 → ⊥) → length ws ≡ 7 → (w : Written) (l₁ : List ℕ) → w ≡ stored_answer l at (bytes_for k (take (n - 0) ws))
+  pub some_kind : (n ≡ 0 → ⊥) → length ws ≡ 7 → (w : Written) (l₁ : List ℕ) → w ≡ stored_answer l at (bytes_for k (take (n - 0) ws))
       → l₁ ≡ stored_over l at (bytes_for k (take (n - 0) ws)) → AllBelow (take (n - 0) ws)
       → (w ≡ words_answer l at k ws) × ((l₁ ≡ words_written l at k ws) × Payload k ws)
   unfolding words_answer words_written stored_answer stored_over
-  some-kind some seven w l₁ e f below =
+  some_kind some seven w l₁ e f below =
       let known : eqb (count_of k) 0 ≡ false = ne_eqb (count_of k) 0 (λ z. some (count ∙ z)) in (
         e ∙ ap (λ (x : List ℕ). stored_answer l at (bytes_for k x)) part ∙ sym (simp known),
         (

@@ -45,16 +45,16 @@ four_of a b c d h i j k =
     cc
 
 module _ (s : List ℕ) (bytes : Bytes s) where
-  two-there : (at : ℕ) → at + 2 ≤ length s → two (half s at) ≡ take 2 (drop at s)
+  two_there : (at : ℕ) → at + 2 ≤ length s → two (half s at) ≡ take 2 (drop at s)
   unfolding half Bytes
-  two-there at h =
+  two_there at h =
       let e₁ : at + 1 ≡ suc at = omega arith in
       two_of (get_or s at 0) (get_or s (at + 1) 0) (bytes at) (bytes (at + 1))
       ∙ rw e₁ (sym (ap (take 2) (drop-cons s at 0 (omega arith) ∙ ap (λ (l : List ℕ). get_or s at 0 ∷ l) (drop-cons s (suc at) 0 (omega arith)))))
 
-  four-there : (at : ℕ) → at + 4 ≤ length s → four (word s at) ≡ take 4 (drop at s)
+  four_there : (at : ℕ) → at + 4 ≤ length s → four (word s at) ≡ take 4 (drop at s)
   unfolding word Bytes
-  four-there at h =
+  four_there at h =
       let e₁ : at + 1 ≡ suc at = omega arith in
       let e₂ : at + 2 ≡ suc (suc at) = omega arith in
       let e₃ : at + 3 ≡ suc (suc (suc at)) = omega arith in
@@ -65,19 +65,19 @@ module _ (s : List ℕ) (bytes : Bytes s) where
       four_of (get_or s at 0) (get_or s (at + 1) 0) (get_or s (at + 2) 0) (get_or s (at + 3) 0) (bytes at) (bytes (at + 1)) (bytes (at + 2)) (bytes (at + 3))
       ∙ rw (e₁, e₂, e₃) (sym (ap (take 4) d₀))
 
-  words-there : (n at : ℕ) → at + 4 * n ≤ length s → fours (words_at s at n) ≡ take (4 * n) (drop at s)
+  words_there : (n at : ℕ) → at + 4 * n ≤ length s → fours (words_at s at n) ≡ take (4 * n) (drop at s)
   unfolding fours words_at
-  words-there zero at h = refl
-  words-there (suc n) at h =
+  words_there zero at h = refl
+  words_there (suc n) at h =
       let z : 4 * suc n ≡ 4 + 4 * n = omega arith in
-      ap (λ (l : List ℕ). l ++ fours (words_at s (at + 4) n)) (four-there at (omega arith))
-      ∙ ap (λ (l : List ℕ). take 4 (drop at s) ++ l) (words-there n (at + 4) (omega arith) ∙ ap (take (4 * n)) (sym (drop-drop 4 at s)))
+      ap (λ (l : List ℕ). l ++ fours (words_at s (at + 4) n)) (four_there at (omega arith))
+      ∙ ap (λ (l : List ℕ). take 4 (drop at s) ++ l) (words_there n (at + 4) (omega arith) ∙ ap (take (4 * n)) (sym (drop-drop 4 at s)))
       ∙ sym (ap (λ (k : ℕ). take k (drop at s)) z ∙ take-add 4 (4 * n) (drop at s))
 
-  words-below : (n at : ℕ) → AllBelow (words_at s at n)
+  words_below : (n at : ℕ) → AllBelow (words_at s at n)
   unfolding words_at AllBelow Bytes word
-  words-below zero at = tt
-  words-below (suc n) at = (omega (arith, bytes at, bytes (at + 1), bytes (at + 2), bytes (at + 3)), words-below n (at + 4))
+  words_below zero at = tt
+  words_below (suc n) at = (omega (arith, bytes at, bytes (at + 1), bytes (at + 2), bytes (at + 3)), words_below n (at + 4))
 
   -- the length, the kind and the words
   all_there : (n at : ℕ) → at + (6 + 4 * n) ≤ length s
@@ -87,19 +87,19 @@ module _ (s : List ℕ) (bytes : Bytes s) where
       let z : 6 + 4 * n ≡ 4 + (2 + 4 * n) = omega arith in
       let y : at + 4 + 2 ≡ at + 6 = omega arith in
       let w : fours (words_at s (at + 6) n) ≡ take (4 * n) (drop 2 (drop (at + 4) s)) =
-      words-there n (at + 6) (omega arith) ∙ ap (take (4 * n)) (sym (drop-drop 2 (at + 4) s ∙ ap (λ (x : ℕ). drop x s) y)) in
+      words_there n (at + 6) (omega arith) ∙ ap (take (4 * n)) (sym (drop-drop 2 (at + 4) s ∙ ap (λ (x : ℕ). drop x s) y)) in
       let t : two k ++ fours (words_at s (at + 6) n) ≡ take (2 + 4 * n) (drop (at + 4) s) =
-      ap (λ (l : List ℕ). l ++ fours (words_at s (at + 6) n)) (two-there (at + 4) (omega arith))
+      ap (λ (l : List ℕ). l ++ fours (words_at s (at + 6) n)) (two_there (at + 4) (omega arith))
       ∙ ap (λ (l : List ℕ). take 2 (drop (at + 4) s) ++ l) w
       ∙ sym (take-add 2 (4 * n) (drop (at + 4) s)) in
-      ap (λ (l : List ℕ). l ++ (two k ++ fours (words_at s (at + 6) n))) (four-there at (omega arith))
+      ap (λ (l : List ℕ). l ++ (two k ++ fours (words_at s (at + 6) n))) (four_there at (omega arith))
       ∙ ap (λ (l : List ℕ). take 4 (drop at s) ++ l) (t ∙ ap (take (2 + 4 * n)) (sym (drop-drop 4 at s)))
       ∙ sym (ap (λ (x : ℕ). take x (drop at s)) z ∙ take-add 4 (2 + 4 * n) (drop at s))
 
-length-words : (s : List ℕ) (at n : ℕ) → length (words_at s at n) ≡ n
+length_words : (s : List ℕ) (at n : ℕ) → length (words_at s at n) ≡ n
 unfolding words_at
-length-words s at zero = refl
-length-words s at (suc n) = ap suc (length-words s (at + 4) n)
+length_words s at zero = refl
+length_words s at (suc n) = ap suc (length_words s (at + 4) n)
 
 -- ---- a record that is read
 pub there : (s : List ℕ) (at next : ℕ) (r : Record) → Bytes s → read_of s at ≡ Whole r next → (bytes_of r ≡ take (next - at) (drop at s)) × Fits r
@@ -109,10 +109,10 @@ there s at next r bytes got =
     let k = half s (at + 4) in
     let n = count_of k in
     let ws = words_at s (at + 6) n in
-    let t : Together k ws = together k ws d.known (length-words s (at + 6) n) (words-below s bytes n (at + 6)) in
+    let t : Together k ws = together k ws d.known (length_words s (at + 6) n) (words_below s bytes n (at + 6)) in
     let words : words_of r ≡ ws = ap words_of (sym d.is) ∙ t.words in
     let size = length_is n in
-    let l : length_of (length (words_of r)) ≡ word s at = ap length_of (ap length words ∙ length-words s (at + 6) n) ∙ sym d.size in
+    let l : length_of (length (words_of r)) ≡ word s at = ap length_of (ap length words ∙ length_words s (at + 6) n) ∙ sym d.size in
     let z : 6 + 4 * n ≡ next - at = omega (arith, d.ends, d.size) in (
       ap (λ (x : ℕ). four x ++ (two (kind_of r) ++ fours (words_of r))) l
           ∙ ap (λ (x : ℕ). four (word s at) ++ (two x ++ fours (words_of r))) (ap kind_of (sym d.is) ∙ t.kind)

@@ -10,7 +10,7 @@ use borrow.Author.Tests.{eqb-true, eqb-false}
 use Rattle.records.specs.Numbers.{AllBelow}
 use Rattle.records.specs.Record.{kind_of, words_of, count_of, record_of, Fits}
 use Rattle.records.proofs.Counts.{none}
-use Rattle.records.proofs.Signed.{pattern-signed, signed-fits}
+use Rattle.records.proofs.Signed.{pattern_signed, signed_fits}
 
 -- ---- n words of a list, one by one; all of them are the list
 words_from : List ℕ → ℕ → ℕ → List ℕ
@@ -51,7 +51,7 @@ one_by_one k ws some = go (eqb k 1) (eqb k 2) (eqb k 3) refl refl refl
     second h = (refl, (refl, h))
 
     third : Is 3
-    third h = (refl, (ap (λ (x : ℕ). x ∷ []) (pattern-signed (get_or ws 0 0) h.0), signed-fits (get_or ws 0 0) h.0))
+    third h = (refl, (ap (λ (x : ℕ). x ∷ []) (pattern_signed (get_or ws 0 0) h.0), signed_fits (get_or ws 0 0) h.0))
 
     go : (a b c : Bool) → eqb k 1 ≡ a → eqb k 2 ≡ b → eqb k 3 ≡ c → Is k
     go true b c e₁ e₂ e₃ = subst Is (sym (eqb-true k 1 e₁)) first

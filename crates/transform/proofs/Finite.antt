@@ -29,8 +29,8 @@ neither : (p q : Bool) → (p || q) ≡ false → (p ≡ false) × (q ≡ false)
 neither true q e = absurd (true≢false e)
 neither false q e = (refl, e)
 
-both-finite : (a b n : Float) → finite n ≡ true → differs a b n ≡ false → (finite a ≡ true) × (finite b ≡ true)
-both-finite a b n f e =
+both_finite : (a b n : Float) → finite n ≡ true → differs a b n ≡ false → (finite a ≡ true) × (finite b ≡ true)
+both_finite a b n f e =
     let ne-both = neither (ne a n) (ne b n) e in
     (same-finite a n f ne-both.0, same-finite b n f ne-both.1)
 
@@ -41,13 +41,13 @@ nothing false true translate e = absurd (false≢true e)
 nothing false false true e = absurd (false≢true e)
 nothing false false false e = (refl, refl, refl)
 
-pub identity-finite : (t : Transform) → is_identity t ≡ true → is_finite t ≡ true
+pub identity_finite : (t : Transform) → is_identity t ≡ true → is_finite t ≡ true
 unfolding has_only is_finite of_bits of_fields
-identity-finite t i =
+identity_finite t i =
     let n = nothing (has_scale t) (has_skew t) (has_translate t) i in
-    let scale = both-finite t.sx t.sy one32 refl n.0 in
-    let skew = both-finite t.kx t.ky zero32 refl n.1 in
-    let move = both-finite t.tx t.ty zero32 refl n.2 in
+    let scale = both_finite t.sx t.sy one32 refl n.0 in
+    let skew = both_finite t.kx t.ky zero32 refl n.1 in
+    let move = both_finite t.tx t.ty zero32 refl n.2 in
     rw (scale.0, skew.1, skew.0, scale.1, move.0, move.1)
 
 -- ---- what is given
@@ -57,22 +57,22 @@ given_finite (Inverted c) = is_finite c.transform
 given_finite NearlySingular = true
 given_finite NotFinite = true
 
-checked-finite : (inverse : Transform) (rounded : Bool) → given_finite (checked_of inverse rounded) ≡ true
+checked_finite : (inverse : Transform) (rounded : Bool) → given_finite (checked_of inverse rounded) ≡ true
 unfolding checked_of
-checked-finite inverse rounded = go (is_finite inverse) refl
+checked_finite inverse rounded = go (is_finite inverse) refl
   where
     go : (f : Bool) → is_finite inverse ≡ f → given_finite (cond f (Inverted (computed_of inverse rounded)) NotFinite) ≡ true
     go true e = e
     go false e = refl
 
-pub given-finite : GivenIsFinite
+pub given_finite_lem : GivenIsFinite
 unfolding invert_of
-given-finite t c e = ap given_finite (sym e) ∙ go (has_skew t && nearly_singular t)
+given_finite_lem t c e = ap given_finite (sym e) ∙ go (has_skew t && nearly_singular t)
   where
     go : (near : Bool) → given_finite (cond near NearlySingular (checked_of (inverse_of t) (some_lost (invert_narrows t)))) ≡ true
     go true = refl
-    go false = checked-finite (inverse_of t) (some_lost (invert_narrows t))
+    go false = checked_finite (inverse_of t) (some_lost (invert_narrows t))
 
-pub zeros-not_finite : ZerosAreNotFinite
+pub zeros_not_finite : ZerosAreNotFinite
 unfolding invert_of inverse_of checked_of has_only unskewed_inverse is_finite scale_of of_bits of_fields div mul neg ne
-zeros-not_finite = (refl, refl)
+zeros_not_finite = (refl, refl)

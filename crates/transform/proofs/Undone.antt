@@ -10,7 +10,7 @@ use Rattle.transform.specs.Kinds.{has_scale, has_skew, has_translate, has_only, 
 use Rattle.transform.specs.Inverse.{invert_of, inverse_of, invert_narrows, unskewed_inverse, skewed_inverse, skewed_scaled, inv_determinant}
 use Rattle.transform.specs.Inverse.{skewed_inversion, checked_of, determinant, nearly_singular, over_determinant}
 use Rattle.transform.specs.Laws.{IdentityIsGiven}
-use Rattle.transform.proofs.Finite.{nothing, identity-finite}
+use Rattle.transform.proofs.Finite.{nothing, identity_finite}
 
 -- ---- which parts a branch has
 
@@ -37,7 +37,7 @@ pub by_identity : IdentityIsGiven
 unfolding invert_of inverse_of checked_of has_only
 by_identity t i =
     let s = (nothing (has_scale t) (has_skew t) (has_translate t) i).1 in
-    rw (i, s, identity-finite t i, clear t s)
+    rw (i, s, identity_finite t i, clear t s)
 
 pub by_scale : (t : Transform) → is_identity t ≡ false → is_scale_translate t ≡ true → checked_of (unskewed_inverse t) false ≡ invert_of t
 unfolding invert_of inverse_of is_scale_translate

@@ -22,8 +22,8 @@ root_ge a q n h i = le_of_suc-le-suc (lt_of_not-le no)
 pub root_lt : (a q n : ℕ) → n < a * a → q * q ≤ n → q < a
 root_lt a q n l i = lt_of_not-le (λ (g : a ≤ q). not-le_of_lt l (le_trans (mul-le-mul g g) i))
 
-pub whole-root_is : (n r : ℕ) → r * r ≤ n → n < (r + 1) * (r + 1) → r ≡ whole_root (size n) n
-whole-root_is n r lo hi = go (whole_root (size n) n) (root_is n)
+pub whole_root_is : (n r : ℕ) → r * r ≤ n → n < (r + 1) * (r + 1) → r ≡ whole_root (size n) n
+whole_root_is n r lo hi = go (whole_root (size n) n) (root_is n)
   where
     go : (w : ℕ) → IsRoot n w → r ≡ w
     go w i = le_antisymm (root_ge r w n lo (omega (arith, i.below))) (root_ge w r n i.at_least hi)
@@ -36,7 +36,7 @@ inside k e =
     (leb→le 256 k (and_l (leb 256 k) (ltb k 1024) t), ltb→lt k 1024 (and_r (leb 256 k) (ltb k 1024) t))
 
 pub entry_is : (k r : ℕ) → has_entry k ≡ true → Entry k r → r ≡ entry_of k
-entry_is k r e h = whole-root_is (k * 65536) r h.0 h.1 ∙ sym (ap (λ (b : Bool). cond b (whole_root (size (k * 65536)) (k * 65536)) 0) e)
+entry_is k r e h = whole_root_is (k * 65536) r h.0 h.1 ∙ sym (ap (λ (b : Bool). cond b (whole_root (size (k * 65536)) (k * 65536)) 0) e)
 
 pub no_entry : (k : ℕ) → has_entry k ≡ false → 0 ≡ entry_of k
 no_entry k e = sym (ap (λ (b : Bool). cond b (whole_root (size (k * 65536)) (k * 65536)) 0) e)
@@ -44,8 +44,8 @@ no_entry k e = sym (ap (λ (b : Bool). cond b (whole_root (size (k * 65536)) (k 
 -- ---- the nearest whole number
 
 -- of two, neither is below the other
-not-below : (n r s : ℕ) → n ≤ r * r + r → s * s < n + s → s ≤ r
-not-below n r s h l = le_of_suc-le-suc (lt_of_not-le no)
+not_below : (n r s : ℕ) → n ≤ r * r + r → s * s < n + s → s ≤ r
+not_below n r s h l = le_of_suc-le-suc (lt_of_not-le no)
   where
     apart : (d : ℕ) → (suc r + d) * (suc r + d) < n + (suc r + d) → ⊥
     apart d g = omega (arith, h)
@@ -69,4 +69,4 @@ nearest_is n r some near = go (whole_root (size n) n) (root_is n)
     go : (w : ℕ) → IsRoot n w → r ≡ cond (leb n (w * w + w)) w (suc w)
     go w i =
         let other = by n w some i (leb n (w * w + w)) (leb→le n (w * w + w)) (nleb→lt n (w * w + w)) in
-        le_antisymm (not-below n _ r other.1 near.0) (not-below n r _ near.1 other.0)
+        le_antisymm (not_below n _ r other.1 near.0) (not_below n r _ near.1 other.0)

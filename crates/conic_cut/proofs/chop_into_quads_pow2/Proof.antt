@@ -9,7 +9,7 @@ use lib.ListN.{length}
 use lib.Pow.{pow_mono}
 use Rattle.conic_cut.specs.declared.Cut.TheVariants.{Quads}
 use Rattle.conic_cut.specs.Cut.{room}
-use Rattle.conic_cut.proofs.Answers.{too_deep, too_short, cut_into, answer-cut, stored_cut, kept_order}
+use Rattle.conic_cut.proofs.Answers.{too_deep, too_short, cut_into, answer_cut, stored_cut, kept_order}
 use Rattle.conic.specs.Chop.{chop_by_rule}
 use Rattle.conic_cut.proofs.chop_into_quads_pow2.Statement.{statement}
 use Rattle.conic_cut.proofs.chop_into_quads_pow2.Tie as tie
@@ -50,7 +50,7 @@ returns-3 c =
     let low = c.before.before.before.before.before.before.if1.false in
     let fits : room a.level ≤ length a.out.now = omega (arith, q.ensures, c.before.before.before.before.if2.false) in
     let done = c.before.before.store.ensures ∙ stored_cut chop_by_rule a.level a.c a.out.now low fits in
-    let many = ap Quads q.ensures ∙ answer-cut chop_by_rule a.level a.c a.out.now low fits in
+    let many = ap Quads q.ensures ∙ answer_cut chop_by_rule a.level a.c a.out.now low fits in
     (cut_into many done, kept_order a.level a.c a.out.now c.before.before.store.new.0 done)
 
 pub chop-into-quads-pow2-spec : {M : Type 1} → statement M

@@ -1,6 +1,6 @@
 -- `date_all` meets its contract. Assumes nothing.
 use Rattle.std.proofs.Common.{sym, ◌∙◌, rules}
-use Rattle.date_table.proofs.Many.{all_into, table-refused}
+use Rattle.date_table.proofs.Many.{all_into, table_refused}
 use Rattle.date_table.proofs.date_all.Statement.{statement}
 use Rattle.date_table.proofs.date_all.Tie as tie
 
@@ -25,7 +25,7 @@ returns c = let all = c.before.before.all in all_into all.ensures.0 all.ensures.
 returns-2 : tie.Need-returns-2
 returns-2 c =
     let s = c.before.before.before.before.before.before in
-    table-refused s.args.table.now s.args.times.now c.before.why.given.0.0 (sym c.before.before.before.test.ensures ∙ c.before.why.given.1)
+    table_refused s.args.table.now s.args.times.now c.before.why.given.0.0 (sym c.before.before.before.test.ensures ∙ c.before.why.given.1)
 
 pub date-all-spec : {M : Type 1} → statement M
 date-all-spec =

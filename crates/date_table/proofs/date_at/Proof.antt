@@ -1,6 +1,6 @@
 -- `date_at` meets its contract. Assumes nothing.
 use Rattle.std.proofs.Common.{sym, ◌∙◌, rules}
-use Rattle.date_table.proofs.Dates.{dated_at, table-refused}
+use Rattle.date_table.proofs.Dates.{dated_at, table_refused}
 use Rattle.date_table.proofs.date_at.Statement.{statement}
 use Rattle.date_table.proofs.date_at.Tie as tie
 
@@ -22,7 +22,7 @@ returns c = dated_at c.date.ensures
 returns-2 : tie.Need-returns-2
 returns-2 c =
     let s = c.before.before.before.before.before in
-    table-refused s.args.table.now s.args.r c.before.why.given.0.0 (sym c.before.before.before.test.ensures ∙ c.before.why.given.1)
+    table_refused s.args.table.now s.args.r c.before.why.given.0.0 (sym c.before.before.before.test.ensures ∙ c.before.why.given.1)
 
 pub date-at-spec : {M : Type 1} → statement M
 date-at-spec =

@@ -5,14 +5,14 @@ use Rattle.conic.proofs.Sources.{was_made, was_refused}
 use Rattle.conic.specs.declared.Rule.TheVariants.{BothAxes}
 use Rattle.conic.specs.Source.{conic_of}
 use Rattle.date_table.proofs.Answers.{too_deep, too_short, made_into}
-use Rattle.date_table.proofs.Forward.{promised-from}
+use Rattle.date_table.proofs.Forward.{promised_from}
 use Rattle.date_table.proofs.make_from.Statement.{statement}
 use Rattle.date_table.proofs.make_from.Tie as tie
 
 returns : tie.Need-returns
 returns c =
     let a = c.before.before.before.args in
-    promised-from a.src.now (too_deep a.level (conic_of a.src.now a.weight BothAxes) (ltb (length a.src.now) 6) a.table.now c.if1.true)
+    promised_from a.src.now (too_deep a.level (conic_of a.src.now a.weight BothAxes) (ltb (length a.src.now) 6) a.table.now c.if1.true)
 
 from-points-requires : tie.Need-from-points-requires
 from-points-requires c κs = search rules
@@ -36,7 +36,7 @@ returns-2 c =
     let known = c.before.before.before.before.before.c.given in
     let told = was_made a.src.now a.weight BothAxes known.0.0 (sym read ∙ known.1) in
     let made = c.before.before.make.ensures.0 in
-    promised-from a.src.now (made_into (rw (told.0, ← told.1) made.answer) (rw (told.0, ← told.1) made.table))
+    promised_from a.src.now (made_into (rw (told.0, ← told.1) made.answer) (rw (told.0, ← told.1) made.table))
 
 returns-3 : tie.Need-returns-3
 returns-3 c =
@@ -45,7 +45,7 @@ returns-3 c =
     let known = c.enum_told.given in
     let told = was_refused a.src.now a.weight BothAxes known.0.0 (sym read ∙ known.1) in
     let low = c.before.before.before.if1.false in
-    promised-from a.src.now (too_short a.level (conic_of a.src.now a.weight BothAxes) (ltb (length a.src.now) 6) a.table.now low (rw (told.0, or-true)))
+    promised_from a.src.now (too_short a.level (conic_of a.src.now a.weight BothAxes) (ltb (length a.src.now) 6) a.table.now low (rw (told.0, or-true)))
 
 pub make-from-spec : {M : Type 1} → statement M
 make-from-spec =

@@ -6,7 +6,7 @@ use lib.Ieee.{Float, nan, binary32, fits, to_bits}
 use lib.Ieee.Compare.{differs_from_itself}
 use lib.Ieee.Bits.{of_bits-to_bits}
 use Rattle.float_laws.specs.Absolute.{abs_of}
-use Rattle.float_laws.proofs.Patterns.{plain-bits, plain-small}
+use Rattle.float_laws.proofs.Patterns.{plain-bits, plain_small}
 use Rattle.float_laws.proofs.Sign.{equals_itself}
 use Rattle.float_laws.proofs.Sign.{abs_bits}
 use Rattle.float_ground.proofs.abs_f32.Statement.{statement}
@@ -28,7 +28,7 @@ float-to-bits-result c = equals_itself c.before.args.x c.if1.false
 float-from-bits-result : tie.Need-float-from-bits-result
 float-from-bits-result c =
     let x = c.before.args.x in
-    plain-small binary32 (to_bits binary32 x % 2 ^ 31) (plain-bits binary32 x (held c.before) (equals_itself x c.if1.false))
+    plain_small binary32 (to_bits binary32 x % 2 ^ 31) (plain-bits binary32 x (held c.before) (equals_itself x c.if1.false))
 
 returns-2 : tie.Need-returns-2
 returns-2 c =

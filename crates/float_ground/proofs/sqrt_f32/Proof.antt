@@ -2,7 +2,7 @@
 use mathlib.Core.Path.{sym, subst}
 use lib.Dec.{T}
 use lib.Ieee.{binary32, fits, nan_bits}
-use Rattle.float_ground.proofs.RootKinds.{normal-number, subnormal-number, normal-bits, subnormal-bits, of_pattern, no_root, itself}
+use Rattle.float_ground.proofs.RootKinds.{normal_number, subnormal_number, normal_bits, subnormal_bits, of_pattern, no_root, itself}
 use Rattle.float_ground.proofs.sqrt_f32.Statement.{statement}
 use Rattle.float_ground.proofs.sqrt_f32.Tie as tie
 
@@ -18,10 +18,10 @@ unfolding nan_bits
 float-from-bits-if1-2 c = tt
 
 float-to-bits-normal32 : tie.Need-float-to-bits-normal32
-float-to-bits-normal32 c = normal-number binary32 c.before.args.x c.if1.true
+float-to-bits-normal32 c = normal_number binary32 c.before.args.x c.if1.true
 
 normal32-requires : tie.Need-normal32-requires
-normal32-requires c κs = normal-bits binary32 c.before.args.x (held c.before) c.if1.true
+normal32-requires c κs = normal_bits binary32 c.before.args.x (held c.before) c.if1.true
 
 returns : tie.Need-returns
 returns c = of_pattern binary32 c.before.before.args.x c.normal32.result (held c.before.before) c.normal32.ensures
@@ -31,10 +31,10 @@ unfolding nan_bits
 float-from-bits-if2 c = tt
 
 float-to-bits-subnormal32 : tie.Need-float-to-bits-subnormal32
-float-to-bits-subnormal32 c = subnormal-number binary32 c.before.before.args.x c.if2.true
+float-to-bits-subnormal32 c = subnormal_number binary32 c.before.before.args.x c.if2.true
 
 subnormal32-requires : tie.Need-subnormal32-requires
-subnormal32-requires c κs = subnormal-bits binary32 c.before.before.args.x (held c.before.before) c.if2.true
+subnormal32-requires c κs = subnormal_bits binary32 c.before.before.args.x (held c.before.before) c.if2.true
 
 returns-2 : tie.Need-returns-2
 returns-2 c =

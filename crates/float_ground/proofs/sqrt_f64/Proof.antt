@@ -2,7 +2,7 @@
 use mathlib.Core.Path.{sym, subst}
 use lib.Dec.{T}
 use lib.Ieee.{binary64, fits, nan_bits}
-use Rattle.float_ground.proofs.RootKinds.{normal-number, subnormal-number, normal-bits, subnormal-bits, of_pattern, no_root, itself}
+use Rattle.float_ground.proofs.RootKinds.{normal_number, subnormal_number, normal_bits, subnormal_bits, of_pattern, no_root, itself}
 use Rattle.float_ground.proofs.sqrt_f64.Statement.{statement}
 use Rattle.float_ground.proofs.sqrt_f64.Tie as tie
 
@@ -18,10 +18,10 @@ unfolding nan_bits
 float-from-bits-if1-2 c = tt
 
 float-to-bits-normal64 : tie.Need-float-to-bits-normal64
-float-to-bits-normal64 c = normal-number binary64 c.before.args.x c.if1.true
+float-to-bits-normal64 c = normal_number binary64 c.before.args.x c.if1.true
 
 normal64-requires : tie.Need-normal64-requires
-normal64-requires c κs = normal-bits binary64 c.before.args.x (held c.before) c.if1.true
+normal64-requires c κs = normal_bits binary64 c.before.args.x (held c.before) c.if1.true
 
 returns : tie.Need-returns
 returns c = of_pattern binary64 c.before.before.args.x c.normal64.result (held c.before.before) c.normal64.ensures
@@ -31,10 +31,10 @@ unfolding nan_bits
 float-from-bits-if2 c = tt
 
 float-to-bits-subnormal64 : tie.Need-float-to-bits-subnormal64
-float-to-bits-subnormal64 c = subnormal-number binary64 c.before.before.args.x c.if2.true
+float-to-bits-subnormal64 c = subnormal_number binary64 c.before.before.args.x c.if2.true
 
 subnormal64-requires : tie.Need-subnormal64-requires
-subnormal64-requires c κs = subnormal-bits binary64 c.before.before.args.x (held c.before.before) c.if2.true
+subnormal64-requires c κs = subnormal_bits binary64 c.before.before.args.x (held c.before.before) c.if2.true
 
 returns-2 : tie.Need-returns-2
 returns-2 c =

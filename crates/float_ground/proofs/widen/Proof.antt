@@ -6,7 +6,7 @@ use lib.Dec.{T}
 use lib.Ieee.{Float, nan, inf, fin, binary32, binary64, fits, is_nan, nan_bits, lt, le, eq}
 use lib.Ieee.Fits.{and_i, fits_widens}
 use Rattle.float_laws.proofs.Narrowed.{round-held}
-use Rattle.float_ground.proofs.Converting.{tidy-apart}
+use Rattle.float_ground.proofs.Converting.{tidy_apart}
 use Rattle.float_ground.proofs.widen.Statement.{statement}
 use Rattle.float_ground.proofs.widen.Tie as tie
 
@@ -40,7 +40,7 @@ returns : tie.Need-returns
 returns c = refl
 
 round-to-requires : tie.Need-round-to-requires
-round-to-requires c κs = tidy-apart binary32 c.before.before.args.x c.take-apart32.result c.take-apart32.ensures
+round-to-requires c κs = tidy_apart binary32 c.before.before.args.x c.take-apart32.result c.take-apart32.ensures
 
 returns-2 : tie.Need-returns-2
 returns-2 c =

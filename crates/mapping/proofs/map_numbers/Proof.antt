@@ -8,7 +8,7 @@ use native.Mathlib.Omega.{arith}
 use lib.Ieee.{nan}
 use lib.ListN.{length, length-set}
 use Rattle.transform.specs.Mapped.{map_point}
-use Rattle.mapping.proofs.Pairs.{map_pairs, map_from, next, all, whole-points}
+use Rattle.mapping.proofs.Pairs.{map_pairs, map_from, next, all, whole_points}
 use Rattle.mapping.proofs.map_numbers.Statement.{statement}
 use Rattle.mapping.proofs.map_numbers.Tie as tie
 
@@ -34,7 +34,7 @@ returns-2 : tie.Need-returns-2 invariant-loop decreases-loop
 returns-2 c =
     let at = c.before.loop in
     let even = c.before.before.if1.false in
-    rw (eq-eqb _ _ even) (refl, (refl, sym (all _ at.i at.numbers (omega arith)) ∙ at.invariant.0 ∙ whole-points _ _ even))
+    rw (eq-eqb _ _ even) (refl, (refl, sym (all _ at.i at.numbers (omega arith)) ∙ at.invariant.0 ∙ whole_points _ _ even))
 
 pub map-numbers-spec : {M : Type 1} → statement M
 map-numbers-spec =

@@ -6,7 +6,7 @@ use native.Mathlib.Omega.{arith}
 use lib.ListN.{length}
 use borrow.Author.Rules.{rules}
 use Rattle.records.specs.Reading.{ended_by, read_from, read_all, end_of}
-use Rattle.records.proofs.Journals.{read_more, read-end, read_short, read-refused}
+use Rattle.records.proofs.Journals.{read_more, read_end, read_short, read_refused}
 use Rattle.records.proofs.Judged.{forward}
 use Rattle.records.proofs.find_end.Statement.{statement}
 use Rattle.records.proofs.find_end.Tie as tie
@@ -43,7 +43,7 @@ enum_told c = search rules
 
 returns : tie.Need-returns invariant-loop decreases-loop
 returns c =
-    let stop = read-end c.before.before.before.before.before.args.journal.now c.before.before.before.loop.at (sym c.before.before.read.ensures ∙ c.enum_told.given.1) in
+    let stop = read_end c.before.before.before.before.before.args.journal.now c.before.before.before.loop.at (sym c.before.before.read.ensures ∙ c.enum_told.given.1) in
     sym (ap ended_by stop) ∙ c.before.before.before.loop.invariant
 
 enum-told-2 : tie.Need-enum-told-2 invariant-loop decreases-loop
@@ -60,7 +60,7 @@ enum-known-why c = search rules
 returns-3 : tie.Need-returns-3 invariant-loop decreases-loop
 returns-3 c =
     let told = c.before.why.given in
-    let stop = read-refused c.before.before.before.before.before.before.args.journal.now c.before.before.before.before.loop.at told.0.0 told.0.1.0 (sym c.before.before.before.read.ensures ∙ told.1) in
+    let stop = read_refused c.before.before.before.before.before.before.args.journal.now c.before.before.before.before.loop.at told.0.0 told.0.1.0 (sym c.before.before.before.read.ensures ∙ told.1) in
     sym (ap ended_by stop) ∙ c.before.before.before.before.loop.invariant
 
 pub find-end-spec : {M : Type 1} → statement M

@@ -1,6 +1,6 @@
 -- `records::write_words` meets its contract: what `put` ensures at the kind and as many words as it has. Assumes nothing.
 use borrow.Author.Rules.{rules}
-use Rattle.records.proofs.Stores.{no_kind, some-kind}
+use Rattle.records.proofs.Stores.{no_kind, some_kind}
 use Rattle.records.proofs.write_words.Statement.{statement}
 use Rattle.records.proofs.write_words.Tie as tie
 
@@ -34,7 +34,7 @@ returns-2 : tie.Need-returns-2
 returns-2 c =
     let a = c.before.before.before.before.before.before.before.before.before.args in
     let put = c.before.before.put in
-    some-kind a.journal.now a.words.now a.at a.kind c.before.before.before.before.before.before.before.count.result c.before.before.before.before.before.before.before.count.ensures.0 c.before.before.before.before.before.if1.false c.before.before.before.before.before.before.all.given.0
+    some_kind a.journal.now a.words.now a.at a.kind c.before.before.before.before.before.before.before.count.result c.before.before.before.before.before.before.before.count.ensures.0 c.before.before.before.before.before.if1.false c.before.before.before.before.before.before.all.given.0
     put.result put.new.0 put.ensures.0 put.ensures.1.0 put.ensures.1.1
 
 pub write-words-spec : {M : Type 1} → statement M

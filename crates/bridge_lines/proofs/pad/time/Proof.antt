@@ -1,7 +1,7 @@
 -- `pad::time` meets its contract: the number is ten times that of the digits before the last, and the last. Assumes nothing.
 use Rattle.std.proofs.Common.{◌≡◌, ℕ, ◌-◌, min, List, length, take, arith}
 use Rattle.bridge_lines.specs.Decimal.{size_of}
-use Rattle.bridge_lines.proofs.Pads.{some, not-below, by_last}
+use Rattle.bridge_lines.proofs.Pads.{some, not_below, by_last}
 use Rattle.bridge_lines.proofs.pad.time.Statement.{statement}
 use Rattle.bridge_lines.proofs.pad.time.Tie as tie
 
@@ -30,7 +30,7 @@ shared-slice-read-result : tie.Need-shared-slice-read-result
 shared-slice-read-result c = omega (arith, some c.before.before.before.before.args.w.now c.before.before.before.before.requires)
 
 sub-result : tie.Need-overflow-sub-result
-sub-result c = omega (arith, not-below c.before.before.before.before.args.w.now c.before.before.before.before.requires)
+sub-result c = omega (arith, not_below c.before.before.before.before.args.w.now c.before.before.before.before.requires)
 
 cast-result-2 : tie.Need-overflow-cast-result-2
 cast-result-2 c = omega (arith, c.shared-slice-known2.given (length c.before.before.before.before.args.w.now - 1))

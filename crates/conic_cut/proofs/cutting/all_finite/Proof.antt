@@ -1,5 +1,5 @@
 -- `all_finite` meets its contract. The loop's invariant: what was found, and what the rest will be found, make the whole answer. Assumes nothing.
-use mathlib.Core.Bool.{Bool, ◌&&◌, and-true, and_assoc}
+use mathlib.Core.Bool.{Bool, ◌&&◌, and_true, and_assoc}
 use mathlib.Core.Path.{◌≡◌, refl, sym, ap, ◌∙◌}
 use Prim.Native.Nat.{◌≤◌, ◌+◌, ◌-◌}
 use native.Mathlib.Omega.{arith}
@@ -60,7 +60,7 @@ returns : tie.Need-returns invariant-loop decreases-loop
 returns c =
     let at-loop = c.before.loop in
     let s = c.before.before.before.args.s.now in
-    sym (and-true at-loop.ok) ∙ ap (λ (b : Bool). at-loop.ok && b) (sym (all_end s at-loop.i c.loop-test.false)) ∙ at-loop.invariant.1
+    sym (and_true at-loop.ok) ∙ ap (λ (b : Bool). at-loop.ok && b) (sym (all_end s at-loop.i c.loop-test.false)) ∙ at-loop.invariant.1
 
 pub all-finite-spec : {M : Type 1} → statement M
 all-finite-spec =

@@ -7,7 +7,7 @@ use Rattle.point.specs.declared.Point.{Point}
 use Rattle.point.specs.Numbers.{flat}
 use Rattle.conic.specs.Chop.{chop_by_rule}
 use Rattle.conic_cut.proofs.Order.{joined}
-use Rattle.conic_cut.proofs.Stores.{ends-pinned}
+use Rattle.conic_cut.proofs.Stores.{ends_pinned}
 use Rattle.conic_cut.proofs.cutting.store.Statement.{statement}
 use Rattle.conic_cut.proofs.cutting.store.Tie as tie
 
@@ -32,7 +32,7 @@ returns-2 c =
     let start = c.before.before.before.before.before.before.is_finite.ensures in
     let end = c.before.before.before.before.before.is-finite2.ensures in
     let bad = rw (start, end) at c.before.before.before.before.if1.false in
-    let pins = ends-pinned chop_by_rule joined.end a.level a.c bad in
+    let pins = ends_pinned chop_by_rule joined.end a.level a.c bad in
     c.before.before.store-pinned.ensures ∙ ap (λ (ps : List Point). sets a.out.now 0 (flat ps)) pins
 
 pub store_spec : {M : Type 1} → statement M

@@ -1,7 +1,7 @@
 -- `store_cut` meets its contract, with the points as they are cut and with the interior pinned. Assumes nothing.
 use borrow.Author.Rules.{rules}
 use Rattle.conic.specs.Chop.{chop_by_rule}
-use Rattle.conic_cut.proofs.Stores.{stored_fine, stored-pinned}
+use Rattle.conic_cut.proofs.Stores.{stored_fine, stored_pinned}
 use Rattle.conic_cut.proofs.cutting.store_cut.Statement.{statement}
 use Rattle.conic_cut.proofs.cutting.store_cut.Tie as tie
 
@@ -29,7 +29,7 @@ returns c =
     let a = s.args in
     let put = c.before.before.before.before.before.before.before.before.before.before.put in
     let cut = c.before.before.before.before.before.before.cut in
-    let test = c.before.all-finite in
+    let test = c.before.all_finite_lem in
     stored_fine chop_by_rule a.level a.c a.out.now put.new.0 cut.new.0 put.result cut.result
     put.ensures cut.ensures s.requires.0 test.result test.ensures c.if1.true
 
@@ -46,9 +46,9 @@ returns-2 c =
     let a = s.args in
     let put = tested.before.before.before.before.before.before.before.before.before.put in
     let cut = tested.before.before.before.before.before.cut in
-    let test = tested.all-finite in
+    let test = tested.all_finite_lem in
     let pin = c.before.before.store-pinned in
-    stored-pinned chop_by_rule a.level a.c a.out.now put.new.0 cut.new.0 put.result cut.result
+    stored_pinned chop_by_rule a.level a.c a.out.now put.new.0 cut.new.0 put.result cut.result
     put.ensures cut.ensures s.requires.0 pin.new.0 test.result test.ensures c.before.before.before.before.if1.false pin.ensures
 
 pub store-cut-spec : {M : Type 1} → statement M

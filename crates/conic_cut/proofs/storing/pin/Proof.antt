@@ -5,7 +5,7 @@ use native.Mathlib.Omega.{arith}
 use borrow.Author.Rules.{rules}
 use lib.Seq.{sets}
 use lib.ListN.{length, replicate}
-use Rattle.conic_cut.proofs.Stores.{pin-more, pin-done}
+use Rattle.conic_cut.proofs.Stores.{pin_more, pin_done}
 use Rattle.point.specs.Numbers.{flat}
 use Rattle.conic_cut.proofs.storing.pin.Statement.{statement}
 use Rattle.conic_cut.proofs.storing.pin.Tie as tie
@@ -40,7 +40,7 @@ loop-again c =
       omega arith,
       put.auto.0 ∙ at-loop.invariant.2,
       ap (λ (r : ℕ). sets put.new.0 r (flat (replicate (args.n - (at-loop.i + 1)) args.p))) put.ensures.0
-          ∙ pin-more args.p args.n at-loop.i at-loop.next at-loop.out put.new.0
+          ∙ pin_more args.p args.n at-loop.i at-loop.next at-loop.out put.new.0
           c.before.before.before.before.loop-test.true put.ensures.1
           ∙ at-loop.invariant.3,
     )
@@ -52,7 +52,7 @@ returns : tie.Need-returns invariant-loop decreases-loop
 returns c =
     let at-loop = c.before.loop in
     let args = c.before.before.before.args in
-    sym (pin-done args.p args.n at-loop.i at-loop.next at-loop.out c.loop-test.false) ∙ at-loop.invariant.3
+    sym (pin_done args.p args.n at-loop.i at-loop.next at-loop.out c.loop-test.false) ∙ at-loop.invariant.3
 
 pub pin-spec : {M : Type 1} → statement M
 pin-spec =

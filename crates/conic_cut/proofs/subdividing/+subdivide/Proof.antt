@@ -12,8 +12,8 @@ use Rattle.conic.proofs.is_settled.Reads as is-settled-reads
 use Rattle.conic.proofs.is_whole.Reads as is-whole-reads
 use Rattle.conic.proofs.plain_lines.Reads as plain-lines-reads
 use Rattle.conic_cut.specs.Ladder.{Rungs}
-use Rattle.conic_cut.proofs.Ladder.{Halved, halved-plain}
-use Rattle.conic_cut.proofs.Stores.{pow_more, stored-joined, stored_more}
+use Rattle.conic_cut.proofs.Ladder.{Halved, halved_plain}
+use Rattle.conic_cut.proofs.Stores.{pow_more, stored_joined, stored_more}
 use Rattle.conic_cut.proofs.subdividing.in_full.Reads as in-full-reads
 use Rattle.conic_cut.proofs.subdividing.put_last.Reads as put-last-reads
 use Rattle.conic_cut.proofs.subdividing.rung.Reads as rung-reads
@@ -99,7 +99,7 @@ module _ (t : ℕ) where
       let whole = h.before.before.before.before.is_whole in
       let lines = h.before.before.before.before.before.plain_lines in
       let d = h.before.before.before.before.before.before.rung in
-      halved-plain a.level a.rungs.now a.c d.result lines.result h.halves.result (omega (arith, s.requires.1.1.0)) s.requires.1.1.1.1
+      halved_plain a.level a.rungs.now a.c d.result lines.result h.halves.result (omega (arith, s.requires.1.1.0)) s.requires.1.1.1.1
       d.ensures lines.ensures (sym whole.ensures ∙ not-false whole.result h.before.before.before.if1.false)
       (sym settled.ensures ∙ not-false settled.result h.before.if2.false) h.halves.ensures
 
@@ -113,8 +113,8 @@ module _ (t : ℕ) where
       let two : a.level ≡ 2 = omega (arith, one) in (
         omega (arith, s.requires.1.0, ap (λ (n : ℕ). 2 ^ n) two),
         (
-          subst (λ (n : ℕ). Rungs a.rungs.now n h.halves.result.first.weight) one same.first-rungs,
-          subst (λ (n : ℕ). Rungs a.rungs.now n h.halves.result.second.weight) one same.second-rungs,
+          subst (λ (n : ℕ). Rungs a.rungs.now n h.halves.result.first.weight) one same.first_rungs,
+          subst (λ (n : ℕ). Rungs a.rungs.now n h.halves.result.second.weight) one same.second_rungs,
         ),
       )
 
@@ -129,7 +129,7 @@ module _ (t : ℕ) where
       let same = halves_of h in
       let one = c.before.before.before.before.if3.true in
       let last = c.before.before.put_last in
-      stored-joined chop_by_rule a.level a.c h.halves.result.first h.halves.result.second a.out.now last.new.0 a.at last.result
+      stored_joined chop_by_rule a.level a.c h.halves.result.first h.halves.result.second a.out.now last.new.0 a.at last.result
       (some a.level s.requires.1.1.0) same.first same.second (rw one last.ensures)
 
   subdivide-requires : lts.Need-subdivide-requires (calls t) (at_level t) subdivide.Post
@@ -140,7 +140,7 @@ module _ (t : ℕ) where
         omega (arith, s.requires.0, s.requires.1.1.0),
         (
           omega (arith, s.requires.1.0, pow_more s.args.level (some s.args.level s.requires.1.1.0)),
-          (deeper s.args.level s.requires.1.1.0 more, (omega (arith, s.requires.1.1.1.0), (halves_of h).first-rungs)),
+          (deeper s.args.level s.requires.1.1.0 more, (omega (arith, s.requires.1.1.1.0), (halves_of h).first_rungs)),
         ),
       )
 
@@ -153,7 +153,7 @@ module _ (t : ℕ) where
         omega (arith, s.requires.0, s.requires.1.1.0),
         (
           omega (arith, s.requires.1.0, pow_more s.args.level (some s.args.level s.requires.1.1.0), first.ensures.0, first.auto.0),
-          (deeper s.args.level s.requires.1.1.0 more, (omega (arith, s.requires.1.1.1.0), (halves_of h).second-rungs)),
+          (deeper s.args.level s.requires.1.1.0 more, (omega (arith, s.requires.1.1.1.0), (halves_of h).second_rungs)),
         ),
       )
 

@@ -11,7 +11,7 @@ use Rattle.conic.proofs.Conic.new.Reads as new-reads
 use Rattle.conic.proofs.depth.Depth.chop.Reads as chop-reads
 use Rattle.point.specs.Point.{point_from}
 use Rattle.conic_cut.proofs.Ladder.{Halved, halved}
-use Rattle.conic_cut.proofs.Stores.{pow_more, stored-halves, stored_more}
+use Rattle.conic_cut.proofs.Stores.{pow_more, stored_halves, stored_more}
 use Rattle.conic_cut.proofs.storing.put_halves.Reads as put-halves-reads
 use Rattle.conic_cut.proofs.subdividing.rung.Reads as rung-reads
 use Rattle.conic_cut.proofs.subdividing.subdivide_in_full.Reads as in-full
@@ -87,7 +87,7 @@ module _ (t : ℕ) where
       let a = s.args in
       let same = halves_of chopped in
       let stored = c.before.before.put-halves in
-      stored-halves chop_by_rule a.level _ chopped.chop.result a.out.now stored.new.0 a.at stored.result
+      stored_halves chop_by_rule a.level _ chopped.chop.result a.out.now stored.new.0 a.at stored.result
       (last a.level s.requires.1.1.0 c.before.before.before.before.if1.true) same.first same.second stored.ensures
 
   in-full-requires : lts.Need-subdivide-in-full-requires (calls t) (at_level t) in-full.Post
@@ -99,7 +99,7 @@ module _ (t : ℕ) where
           omega (arith, s.requires.1.0, pow_more s.args.level (λ z. omega (arith, z, s.requires.1.1.0))),
           (
             pos_of_ne-zero more,
-            (omega (arith, s.requires.1.1.1.0), (halves_of c.before.before.before.before).first-rungs),
+            (omega (arith, s.requires.1.1.1.0), (halves_of c.before.before.before.before).first_rungs),
           ),
         ),
       )
@@ -113,7 +113,7 @@ module _ (t : ℕ) where
         omega (arith, s.requires.0, s.requires.1.1.0),
         (
           omega (arith, s.requires.1.0, pow_more s.args.level (λ z. omega (arith, z, s.requires.1.1.0)), first.ensures.0, first.auto.0),
-          (pos_of_ne-zero more, (omega (arith, s.requires.1.1.1.0), (halves_of chopped).second-rungs)),
+          (pos_of_ne-zero more, (omega (arith, s.requires.1.1.1.0), (halves_of chopped).second_rungs)),
         ),
       )
 

@@ -9,8 +9,8 @@ use Prim.Native.Nat.{ℕ, ◌*◌, ◌≤◌}
 use Rattle.float_laws.specs.Formula.{zero32}
 use Rattle.conic.specs.Chop.{chop_by_rule}
 use Rattle.conic_cut.specs.Ladder.{deepest, rungs_of, Rungs}
-use Rattle.conic_cut.proofs.Ladder.{rungs-hold}
-use Rattle.conic_cut.proofs.Stores.{pow_zero, stored-zero}
+use Rattle.conic_cut.proofs.Ladder.{rungs_hold}
+use Rattle.conic_cut.proofs.Stores.{pow_zero, stored_zero}
 use Rattle.conic_cut.proofs.subdividing.cut.Statement.{statement}
 use Rattle.conic_cut.proofs.subdividing.cut.Tie as tie
 
@@ -20,7 +20,7 @@ empty = replicate (2 * deepest) zero32
 
 climbed : (n : ℕ) (w : Float) (l : List Float) → n ≤ deepest → l ≡ rungs_of empty n w → Rungs l n w
 climbed n w l h e =
-    subst⁻¹ (λ (k : List Float). Rungs k n w) e (rungs-hold n empty w (omega (arith, h, length-replicate (2 * deepest) zero32)))
+    subst⁻¹ (λ (k : List Float). Rungs k n w) e (rungs_hold n empty w (omega (arith, h, length-replicate (2 * deepest) zero32)))
 
 deeper : (n : ℕ) → (n ≡ 0 → ⊥) → (n ≡ 1 → ⊥) → 2 ≤ n
 deeper n h k = omega arith
@@ -37,7 +37,7 @@ returns : tie.Need-returns
 returns c =
     let a = c.before.before.before.before.before.before.args in
     let stored = c.before.before.put-quad in
-    stored-zero chop_by_rule a.level a.c a.out.now stored.new.0 a.at stored.result c.before.before.before.before.if1.true stored.ensures
+    stored_zero chop_by_rule a.level a.c a.out.now stored.new.0 a.at stored.result c.before.before.before.before.if1.true stored.ensures
 
 ladder-requires : tie.Need-ladder-requires
 ladder-requires c κs = c.before.before.before.requires.1

@@ -4,7 +4,7 @@ use Prim.Native.Nat.{◌≤◌}
 use native.Mathlib.Omega.{arith}
 use borrow.Author.Rules.{rules}
 use Rattle.conic_cut.specs.Ladder.{deepest, rungs_of}
-use Rattle.conic_cut.proofs.Ladder.{rungs-more, rungs-last, rungs-none}
+use Rattle.conic_cut.proofs.Ladder.{rungs-more, rungs_last, rungs-none}
 use Rattle.conic_cut.proofs.subdividing.ladder.Statement.{statement}
 use Rattle.conic_cut.proofs.subdividing.ladder.Tie as tie
 
@@ -57,7 +57,7 @@ returns : tie.Need-returns invariant-loop decreases-loop
 returns c =
     let at = c.before.before.before.loop in
     let last : at.n ≡ 1 = omega (arith, c.before.before.loop-test.false, c.before.if1.true) in
-    rw c.scale-of2.ensures (rungs-last at.n at.rungs at.w last ∙ at.invariant.1)
+    rw c.scale-of2.ensures (rungs_last at.n at.rungs at.w last ∙ at.invariant.1)
 
 returns-2 : tie.Need-returns-2 invariant-loop decreases-loop
 returns-2 c =

@@ -4,8 +4,8 @@ use mathlib.Core.Bool.{Bool, true, false, ◌&&◌, true≢false}
 use native.Mathlib.Omega.{arith}
 use borrow.Author.Rules.{rules}
 use Rattle.conic.specs.Chop.{chop_by_rule}
-use Rattle.conic_cut.proofs.Ladder.{halved-plain}
-use Rattle.conic_cut.proofs.Stores.{stored-halves, stored-both}
+use Rattle.conic_cut.proofs.Ladder.{halved_plain}
+use Rattle.conic_cut.proofs.Stores.{stored_halves, stored_both}
 use Rattle.conic_cut.proofs.subdividing.put_last.Statement.{statement}
 use Rattle.conic_cut.proofs.subdividing.put_last.Tie as tie
 
@@ -48,14 +48,14 @@ returns c =
     let first = c.before.before.before.before.before.before.before.put-halves in
     let second = c.before.before.put-halves2 in
     let t = four first-whole.result second-whole.result first-settled.result second-settled.result tested.if1.true in
-    let f = halved-plain 1 a.rungs.now a.h.first d.result first-lines.result first_Halves.result (omega arith) s.requires.1.0
+    let f = halved_plain 1 a.rungs.now a.h.first d.result first-lines.result first_Halves.result (omega arith) s.requires.1.0
     d.ensures first-lines.ensures (sym first-whole.ensures ∙ t.0) (sym first-settled.ensures ∙ t.1.1.0) first_Halves.ensures in
-    let g = halved-plain 1 a.rungs.now a.h.second d.result second-lines.result second-halves.result (omega arith) s.requires.1.1
+    let g = halved_plain 1 a.rungs.now a.h.second d.result second-lines.result second-halves.result (omega arith) s.requires.1.1
     d.ensures second-lines.ensures (sym second-whole.ensures ∙ t.1.0) (sym second-settled.ensures ∙ t.1.1.1) second-halves.ensures in
-    stored-both chop_by_rule 1 a.h.first a.h.second a.out.now first.new.0 second.new.0 a.at first.result second.result
-    (stored-halves chop_by_rule 1 a.h.first first_Halves.result a.out.now first.new.0 a.at first.result refl
+    stored_both chop_by_rule 1 a.h.first a.h.second a.out.now first.new.0 second.new.0 a.at first.result second.result
+    (stored_halves chop_by_rule 1 a.h.first first_Halves.result a.out.now first.new.0 a.at first.result refl
     f.first f.second first.ensures)
-    (stored-halves chop_by_rule 1 a.h.second second-halves.result first.new.0 second.new.0 first.result second.result refl
+    (stored_halves chop_by_rule 1 a.h.second second-halves.result first.new.0 second.new.0 first.result second.result refl
     g.first g.second second.ensures)
 
 in-full-requires : tie.Need-in-full-requires
@@ -72,7 +72,7 @@ returns-2 c =
     let a = c.before.before.before.before.before.before.before.before.before.before.before.before.before.before.before.before.before.before.before.args in
     let first = c.before.before.before.before.before.before.in-full in
     let second = c.before.before.in-full2 in
-    stored-both chop_by_rule 1 a.h.first a.h.second a.out.now first.new.0 second.new.0 a.at first.result second.result
+    stored_both chop_by_rule 1 a.h.first a.h.second a.out.now first.new.0 second.new.0 a.at first.result second.result
     first.ensures second.ensures
 
 pub put-last-spec : {M : Type 1} → statement M

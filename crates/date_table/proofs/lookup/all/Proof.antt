@@ -1,6 +1,6 @@
 -- `all` meets its contract, with a time outside and with none. Assumes nothing.
 use Rattle.std.proofs.Common.{◌∙◌, arith, rules}
-use Rattle.date_table.proofs.Many.{one_outside, all-dated}
+use Rattle.date_table.proofs.Many.{one_outside, all_dated}
 use Rattle.date_table.proofs.lookup.all.Statement.{statement}
 use Rattle.date_table.proofs.lookup.all.Tie as tie
 
@@ -25,7 +25,7 @@ returns-2 c =
     let e = c.before.before.before.before in
     let bad = e.before.first-outside in
     let each = c.before.before.date-each in
-    let q = all-dated s.args.table.now s.args.times.now s.requires (omega (arith, bad.ensures, e.if1.false)) in
+    let q = all_dated s.args.table.now s.args.times.now s.requires (omega (arith, bad.ensures, e.if1.false)) in
     (q.0, each.ensures ∙ q.1)
 
 pub all-spec : {M : Type 1} → statement M

@@ -2,7 +2,7 @@
 use Rattle.std.proofs.Common.{◌≡◌, ℕ, ◌-◌, ◌<◌, ◌≤◌, List, map, length, get_or, set, sym, refl, ap, ◌∙◌, arith, length-set}
 use lib.Seq.{paste, paste-zero}
 use Rattle.date_table.specs.Table.{outside, date_in}
-use Rattle.date_table.proofs.Many.{inside_of, none-outside, paste_at, paste-next, paste_all}
+use Rattle.date_table.proofs.Many.{inside_of, none-outside, paste_at, paste_next, paste_all}
 use Rattle.date_table.proofs.lookup.date_each.Statement.{statement}
 use Rattle.date_table.proofs.lookup.date_each.Tie as tie
 
@@ -55,7 +55,7 @@ loop-again c =
       omega arith,
       length-set at.times at.i c.date-in.result ∙ at.invariant.1,
       ap (λ (m : List ℕ). set m at.i c.date-in.result) at.invariant.2
-          ∙ paste-next (date_in l) ts at.i h c.date-in.result (c.date-in.ensures ∙ ap (date_in l) e),
+          ∙ paste_next (date_in l) ts at.i h c.date-in.result (c.date-in.ensures ∙ ap (date_in l) e),
     )
 
 same_length : tie.Need-same-length invariant-loop decreases-loop

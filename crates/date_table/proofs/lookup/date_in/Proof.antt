@@ -64,7 +64,7 @@ part-way-requires c κs =
     let e = c.before.before.before.before.before in
     let h = ended e in
     let more = c.before.before.before.before.if1.false in
-    (e.last-not-above.ensures.not-above, (h.next_x more, h.next_y more))
+    (e.last-not-above.ensures.not_above, (h.next_x more, h.next_y more))
 
 returns-2 : tie.Need-returns-2
 returns-2 c = c.part-way.ensures ∙ (ended c.before.before.before.before.before.before).span c.before.before.before.before.before.if1.false

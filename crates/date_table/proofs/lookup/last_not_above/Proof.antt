@@ -13,25 +13,25 @@ module _ (l : List ℕ) (r low high : ℕ) (b : Bracket l r low high) (wide : 2 
   apart_low = omega (arith, b.apart)
 
   apart-high : middle + 2 ≤ high
-  apart-high = omega (arith, b.low-whole, b.high-whole, b.apart)
+  apart-high = omega (arith, b.low_whole, b.high_whole, b.apart)
 
   raised : get_or l middle 0 ≤ r → Bracket l r middle high
   raised h = record {
-    low-whole = omega (arith, b.low-whole);
-    high-whole = b.high-whole;
+    low_whole = omega (arith, b.low_whole);
+    high_whole = b.high_whole;
     apart = apart-high;
     there = b.there;
-    not-above = h;
+    not_above = h;
     above = b.above;
   }
 
   lowered : r < get_or l middle 0 → Bracket l r low middle
   lowered h = record {
-    low-whole = b.low-whole;
-    high-whole = omega (arith, b.low-whole);
+    low_whole = b.low_whole;
+    high_whole = omega (arith, b.low_whole);
     apart = apart_low;
     there = omega (arith, apart-high, b.there);
-    not-above = b.not-above;
+    not_above = b.not_above;
     above = λ _. h;
   }
 

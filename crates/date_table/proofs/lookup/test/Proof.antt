@@ -2,7 +2,7 @@
 -- with the order of the entry before and what is left, is the order of the whole. Assumes nothing.
 use Rattle.std.proofs.Common.{◌≡◌, ◌+◌, ◌-◌, ◌%◌, ◌<◌, ◌≤◌, Bool, true, false, cond, ◌&&◌, ◌||◌, ◌∷◌, length, get_or, drop, sym, refl, ap, ◌∙◌, arith, rules}
 use Rattle.date_table.specs.Table.{within, rising, check_of}
-use Rattle.date_table.proofs.Pass.{too_large, none-large, rises_on, rises-start, rises-end, within_end, is_empty, is_odd, is_large, is_well, is_falling}
+use Rattle.date_table.proofs.Pass.{too_large, none_large, rises_on, rises_start, rises_end, within_end, is_empty, is_odd, is_large, is_well, is_falling}
 use Rattle.date_table.proofs.lookup.test.Statement.{statement}
 use Rattle.date_table.proofs.lookup.test.Tie as tie
 
@@ -19,7 +19,7 @@ returns-2 : tie.Need-returns-2 invariant-loop decreases-loop
 returns-2 c = is_odd c.before.before.args.table.now (λ z. omega arith) c.if2.true
 
 loop-holds : tie.Need-loop-init invariant-loop decreases-loop
-loop-holds c = (refl, omega arith, omega arith, c.if2.false, refl, refl, rises-start c.before.before.args.table.now)
+loop-holds c = (refl, omega arith, omega arith, c.if2.false, refl, refl, rises_start c.before.before.args.table.now)
 
 mul-next-x : tie.Need-overflow-mul-next-x invariant-loop decreases-loop
 mul-next-x c = omega arith
@@ -59,7 +59,7 @@ loop-again c =
       omega arith,
       at.invariant.3,
       omega arith,
-      sym (none-large at.i l h c.if3.false) ∙ at.invariant.5,
+      sym (none_large at.i l h c.if3.false) ∙ at.invariant.5,
       rises_on at.i l h at.x at.y at.rises ∙ at.invariant.6,
     )
 
@@ -69,7 +69,7 @@ returns-4 c =
     let l = c.before.before.before.before.before.args.table.now in
     let e : length l ≤ at.i = omega arith in
     is_well l (λ z. omega arith) at.invariant.3 (sym at.invariant.5 ∙ within_end at.i l e)
-    (sym at.invariant.6 ∙ rises-end at.i l at.x at.y at.rises e ∙ c.if4.true)
+    (sym at.invariant.6 ∙ rises_end at.i l at.x at.y at.rises e ∙ c.if4.true)
 
 returns-5 : tie.Need-returns-5 invariant-loop decreases-loop
 returns-5 c =
@@ -77,7 +77,7 @@ returns-5 c =
     let l = c.before.before.before.before.before.args.table.now in
     let e : length l ≤ at.i = omega arith in
     is_falling l (λ z. omega arith) at.invariant.3 (sym at.invariant.5 ∙ within_end at.i l e)
-    (sym at.invariant.6 ∙ rises-end at.i l at.x at.y at.rises e ∙ c.if4.false)
+    (sym at.invariant.6 ∙ rises_end at.i l at.x at.y at.rises e ∙ c.if4.false)
 
 pub test-spec : {M : Type 1} → statement M
 test-spec =

@@ -3,7 +3,7 @@ use Rattle.std.proofs.Common.{◌≡◌, ℕ, ◌+◌, ◌-◌, ◌≤◌, lengt
 use lib.Ieee.{nan}
 use lib.Seq.{sets}
 use Rattle.date_table.specs.Whole.{whole_of}
-use Rattle.date_table.proofs.Taken.{left, left_longer, left-none, store-more}
+use Rattle.date_table.proofs.Taken.{left, left_longer, left_none, store-more}
 use Rattle.date_table.proofs.making.round_into.Statement.{statement}
 use Rattle.date_table.proofs.making.round_into.Tie as tie
 
@@ -98,7 +98,7 @@ returns : tie.Need-returns invariant-loop decreases-loop
 returns c =
     let at = c.before.loop in
     let l = c.before.before.before.before.args.points.now in
-    ap (sets at.out at.to) (sym (left-none at.from l c.loop-test.false)) ∙ at.invariant.3
+    ap (sets at.out at.to) (sym (left_none at.from l c.loop-test.false)) ∙ at.invariant.3
 
 pub round-into-spec : {M : Type 1} → statement M
 round-into-spec =

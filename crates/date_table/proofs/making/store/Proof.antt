@@ -9,7 +9,7 @@ use Rattle.conic_cut.specs.Cut.{room, cut_buffer}
 use Rattle.point.specs.declared.Point.{Point}
 use Rattle.point.specs.Numbers.{points_of}
 use Rattle.date_table.specs.Making.{rounded_of, cut_of}
-use Rattle.date_table.proofs.Answers.{cut-points, spans-most, table-length, stored-made, stored_refused}
+use Rattle.date_table.proofs.Answers.{cut_points, spans_most, table_length, stored_made, stored_refused}
 use Rattle.date_table.proofs.making.store.Statement.{statement}
 use Rattle.date_table.proofs.making.store.Tie as tie
 
@@ -22,8 +22,8 @@ points-are c =
     let zeros = replicate (room ceiling) zero32 in
     let spans = c.before.before.before.spans in
     let cut = c.chop-into-quads-pow2 in
-    cut-points n spans.result s.args.c zeros cut.new.0 s.requires.0
-    (omega (arith, spans-most n s.requires.0, length-replicate (room ceiling) zero32))
+    cut_points n spans.result s.args.c zeros cut.new.0 s.requires.0
+    (omega (arith, spans_most n s.requires.0, length-replicate (room ceiling) zero32))
     (cut.ensures.0.buffer ∙ ap (λ (d : Conic). cut_buffer chop_by_rule n d false zeros) c.before.before.new.ensures)
     spans.ensures
 
@@ -58,7 +58,7 @@ part-store-tested-end : tie.Need-slice-bounds-store-tested-end
 part-store-tested-end c =
     let cut = c.before.before.before.before in
     let s = cut.before.before.before.before.before in
-    omega (arith, spans-most s.args.level s.requires.0, cut.before.before.before.spans.ensures, cut.chop-into-quads-pow2.auto.0)
+    omega (arith, spans_most s.args.level s.requires.0, cut.before.before.before.spans.ensures, cut.chop-into-quads-pow2.auto.0)
 
 mul-store-tested-2 : tie.Need-overflow-mul-store-tested-2
 mul-store-tested-2 c = search rules
@@ -72,8 +72,8 @@ store-tested-requires c κs =
     let s = cut.before.before.before.before.before in
     let spans = cut.before.before.before.spans in
     let n = s.args.level in
-    let long = ap (λ (ps : List Point). length (rounded_of ps)) (points-are cut) ∙ table-length n s.args.c in
-    let most = spans-most n s.requires.0 in
+    let long = ap (λ (ps : List Point). length (rounded_of ps)) (points-are cut) ∙ table_length n s.args.c in
+    let most = spans_most n s.requires.0 in
     (omega (arith, long, spans.ensures), (omega (arith, s.requires.1, most, spans.ensures), omega (arith, s.requires.1, most, spans.ensures)))
 
 enum_told : tie.Need-enum-told
@@ -95,7 +95,7 @@ returns c =
     let s = cut.before.before.before.before.before in
     let spans = cut.before.before.before.spans in
     let t = rounded_of (points_of (take (4 * spans.result + 2 - 0) cut.chop-into-quads-pow2.new.0)) in
-    stored-made s.args.level s.args.c s.args.table.now s.requires.0 s.requires.1 t stored.store-tested.new.0 stored.store-tested.result
+    stored_made s.args.level s.args.c s.args.table.now s.requires.0 s.requires.1 t stored.store-tested.new.0 stored.store-tested.result
     (ap rounded_of (points-are cut)) stored.store-tested.ensures.0 stored.store-tested.ensures.1 spans.result spans.ensures c.enum_told.given.1
 
 same-length-2 : tie.Need-same-length-2

@@ -2,7 +2,7 @@
 use Rattle.std.proofs.Common.{T, sym, ◌∙◌, subst, arith, rules}
 use lib.Ieee.{of_bits}
 use Rattle.date_table.specs.Whole.{in_range}
-use Rattle.date_table.proofs.Rounding.{inside, whole_in, whole_out, whole-most, rounded}
+use Rattle.date_table.proofs.Rounding.{inside, whole_in, whole_out, whole_most, rounded}
 use Rattle.date_table.proofs.whole.round_down.Statement.{statement}
 use Rattle.date_table.proofs.whole.round_down.Tie as tie
 
@@ -15,7 +15,7 @@ unfolding in_range of_bits
 cast-result c =
     let x = c.before.before.args.x in
     let h = c.before.if1.true in
-    omega (arith, whole-most x h, c.truncating-f32-to-u64.ensures ∙ (inside x h).cut ∙ sym (whole_in x h))
+    omega (arith, whole_most x h, c.truncating-f32-to-u64.ensures ∙ (inside x h).cut ∙ sym (whole_in x h))
 
 returns : tie.Need-returns
 unfolding in_range of_bits

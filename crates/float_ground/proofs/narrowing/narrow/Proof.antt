@@ -15,8 +15,8 @@ use Rattle.float_laws.proofs.Sign.{equals_itself, nan_by_zero}
 use Rattle.float_ground.specs.declared.pack.Pattern.TheVariants.{Bits}
 use Rattle.float_ground.specs.Parts.{Plain, float_of}
 use Rattle.float_ground.proofs.Apart.{fields_are}
-use Rattle.float_ground.proofs.Converting.{plain, rounded-nan}
-use Rattle.float_ground.proofs.Losses.{exact, rounded, to_infinity, nan-kept, number-kept, infinite-rest, finite-rest}
+use Rattle.float_ground.proofs.Converting.{plain, rounded_nan}
+use Rattle.float_ground.proofs.Losses.{exact, rounded, to_infinity, nan_kept, number_kept, infinite_rest, finite_rest}
 use Rattle.float_ground.proofs.narrowing.narrow.Statement.{statement}
 use Rattle.float_ground.proofs.narrowing.narrow.Tie as tie
 
@@ -27,7 +27,7 @@ returns : tie.Need-returns
 returns c =
     let x = c.before.args.x in
     let e = differs_from_itself x (subst T (sym c.if1.true) tt) in
-    exact x (nan_by_zero binary32 ∙ (rounded-nan binary32).is binary64 x e) (nan-kept x e)
+    exact x (nan_by_zero binary32 ∙ (rounded_nan binary32).is binary64 x e) (nan_kept x e)
 
 number : (c : tie.Else1) → T (not (is_nan c.before.args.x))
 number c = equals_itself c.before.args.x c.if1.false
@@ -67,7 +67,7 @@ module _ (c : tie.After-float32) where
       ∙ ap narrow_of (fields_are binary64 (x n) (held n.before.before))
 
   keeps : (k : Bool) → eq c.float32.result (x n) ≡ k → kept (x n) ≡ k
-  keeps k e = number-kept (x n) k (number n.before) nearest e
+  keeps k e = number_kept (x n) k (number n.before) nearest e
 
 float-to-float-if2 : tie.Need-float-to-float-if2
 float-to-float-if2 c =
@@ -81,13 +81,13 @@ returns-2 c = let f = c.before.before in exact _ (nearest f) (keeps f true c.if2
 returns-3 : tie.Need-returns-3
 returns-3 c =
     let f = c.before.before.before in
-    to_infinity _ (nearest f) (keeps f false c.before.if2.false) (ap finite (pattern f) ∙ infinite-rest (s (n f)) _ c.if3.true)
+    to_infinity _ (nearest f) (keeps f false c.before.if2.false) (ap finite (pattern f) ∙ infinite_rest (s (n f)) _ c.if3.true)
 
 returns-4 : tie.Need-returns-4
 returns-4 c =
     let f = c.before.before.before in
     rounded _ (nearest f) (keeps f false c.before.if2.false)
-    (ap finite (pattern f) ∙ finite-rest (s (n f)) _ (n f).narrowed.ensures.most c.if3.false)
+    (ap finite (pattern f) ∙ finite_rest (s (n f)) _ (n f).narrowed.ensures.most c.if3.false)
 
 pub narrow-spec : {M : Type 1} → statement M
 narrow-spec =

@@ -5,7 +5,7 @@ use Prim.Native.Nat.{ℕ, suc, ◌+◌, ◌-◌, ◌*◌, ◌/◌, ◌%◌, ◌^
 use native.Mathlib.Omega.{arith}
 use lib.Pow.{pow_pos, pow-lt}
 use lib.Ieee.Nearest.{closest}
-use Rattle.float_laws.proofs.Rounding.{one_shl, shift-closest}
+use Rattle.float_laws.proofs.Rounding.{one_shl, shift_closest}
 use Rattle.float_ground.proofs.pack.round_shift.Statement.{statement}
 use Rattle.float_ground.proofs.pack.round_shift.Tie as tie
 
@@ -48,7 +48,7 @@ returns c =
     let s = c.before in
     let m = s.args.m in
     rw (half s, c.up-at-tie.ensures) (subst
-    (λ (x : ℕ). (m + (2 ^ (s.args.t - 1) - 1) + m / 2 ^ x % 2) / 2 ^ x ≡ closest m (2 ^ x)) (next s) (shift-closest m (s.args.t - 1)))
+    (λ (x : ℕ). (m + (2 ^ (s.args.t - 1) - 1) + m / 2 ^ x % 2) / 2 ^ x ≡ closest m (2 ^ x)) (next s) (shift_closest m (s.args.t - 1)))
 
 pub round-shift-spec : {M : Type 1} → statement M
 round-shift-spec = tie.close (tie.spec sub-result shl-result sub-result-2 add-result shr-up-at-tie up-at-tie-requires add-result-2 shr-result returns)

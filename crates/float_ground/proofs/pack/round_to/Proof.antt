@@ -4,7 +4,7 @@ use mathlib.Core.Path.{◌≡◌, subst}
 use Rattle.float_ground.specs.declared.pack.Pattern.{Pattern}
 use Rattle.float_ground.specs.declared.parts.Apart.{Apart}
 use Rattle.float_ground.specs.Parts.{format_of, TidyApart, RoundedTo}
-use Rattle.float_ground.proofs.Converting.{rounded-nan, rounded-infinite, rounded-zero, rounded-number}
+use Rattle.float_ground.proofs.Converting.{rounded_nan, rounded_infinite, rounded_zero, rounded_number}
 use Rattle.float_ground.proofs.pack.round_to.Statement.{statement}
 use Rattle.float_ground.proofs.pack.round_to.Tie as tie
 
@@ -38,26 +38,26 @@ signed-requires-2 : tie.Need-signed-requires-2
 signed-requires-2 c κs = search rules
 
 returns : tie.Need-returns
-returns c = rw c.enum_told.given.1 (rounded-nan (format_of c.before.before.args.w))
+returns c = rw c.enum_told.given.1 (rounded_nan (format_of c.before.before.args.w))
 
 returns-2 : tie.Need-returns-2
 returns-2 c =
     let s = c.before.before.before.before in
     let a = c.before.before.a in
-    by s _ _ c.infinite.result a.given.1 c.infinite.ensures (rounded-infinite (format_of s.args.w) a.given.0.0)
+    by s _ _ c.infinite.result a.given.1 c.infinite.ensures (rounded_infinite (format_of s.args.w) a.given.0.0)
 
 returns-3 : tie.Need-returns-3
 returns-3 c =
     let s = c.before.before.before.before in
     let a = c.before.before.a2 in
-    by s _ _ c.signed.result a.given.1 c.signed.ensures (rounded-zero (format_of s.args.w) a.given.0.0)
+    by s _ _ c.signed.result a.given.1 c.signed.ensures (rounded_zero (format_of s.args.w) a.given.0.0)
 
 returns-4 : tie.Need-returns-4
 returns-4 c =
     let s = c.before.before.before.before.before in
     let a = c.before.before.before.a3 in
     by s _ _ c.signed2.result a.given.1 c.signed2.ensures
-    (rounded-number (format_of s.args.w) a.given.0.0 c.before.pack.result c.before.pack.ensures)
+    (rounded_number (format_of s.args.w) a.given.0.0 c.before.pack.result c.before.pack.ensures)
 
 pub round-to-spec : {M : Type 1} → statement M
 round-to-spec =

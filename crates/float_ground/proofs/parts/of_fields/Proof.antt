@@ -6,7 +6,7 @@ use native.Mathlib.Omega.{arith}
 use lib.Ieee.{Format, ones}
 use Rattle.float_ground.specs.declared.parts.Layout.{Layout}
 use Rattle.float_ground.specs.Parts.{format_of, layout_of}
-use Rattle.float_ground.proofs.Apart.{Room, room-high, room-low, fields_infinite, fields_zero, stands-high, stands-low}
+use Rattle.float_ground.proofs.Apart.{Room, room_high, room_low, fields_infinite, fields_zero, stands_high, stands_low}
 use Rattle.float_ground.proofs.parts.of_fields.Statement.{statement}
 use Rattle.float_ground.proofs.parts.of_fields.Tie as tie
 
@@ -27,10 +27,10 @@ module _ (a : tie.After-layout) where
   infinite-is e = e ∙ ap (λ (l : Layout). l.infinite) is
 
   high : Room (t + a.layout.result.hidden) (x - 1) a.layout.result.lowest
-  high = subst (λ (l : Layout). Room (t + l.hidden) (x - 1) l.lowest) (sym is) (room-high f x t a.before.pre.0 a.before.pre.1.0)
+  high = subst (λ (l : Layout). Room (t + l.hidden) (x - 1) l.lowest) (sym is) (room_high f x t a.before.pre.0 a.before.pre.1.0)
 
   at_low : 0 < t → Room t 0 a.layout.result.lowest
-  at_low p = subst (λ (l : Layout). Room t 0 l.lowest) (sym is) (room-low f t p a.before.pre.1.0)
+  at_low p = subst (λ (l : Layout). Room t 0 l.lowest) (sym is) (room_low f t p a.before.pre.1.0)
 
 layout-requires : tie.Need-layout-requires
 layout-requires c κs = search rules
@@ -53,7 +53,7 @@ normal-requires c κs = let h = high c.before.before.before.before in (h.some, (
 returns-2 : tie.Need-returns-2
 returns-2 c =
     let a = c.before.before.before.before.before in
-    stands-high (f a) a.before.args.negative (x a) (t a) c.normal.result c.before.before.if2.true
+    stands_high (f a) a.before.args.negative (x a) (t a) c.normal.result c.before.before.if2.true
     (λ e. c.before.before.before.if1.false (e ∙ sym (ap (λ (l : Layout). l.infinite) (is a)))) a.before.requires.1.0
     (rw (is a) at c.normal.ensures)
 
@@ -63,7 +63,7 @@ normal-requires-2 c κs = let h = at_low c.before.before.before.before c.if3.tru
 returns-3 : tie.Need-returns-3
 returns-3 c =
     let a = c.before.before.before.before.before in
-    stands-low (f a) a.before.args.negative (x a) (t a) c.normal2.result c.before.before.if2.false
+    stands_low (f a) a.before.args.negative (x a) (t a) c.normal2.result c.before.before.if2.false
     a.before.requires.1.0 (rw (is a) at c.normal2.ensures)
 
 returns-4 : tie.Need-returns-4

@@ -5,7 +5,7 @@ use Prim.Native.Nat.{◌+◌, ◌-◌, ◌*◌, ◌/◌, ◌%◌, ◌^◌}
 use native.Mathlib.Omega.{arith}
 use lib.Ieee.{binary32, low, hid, of_bits}
 use Rattle.float_ground.specs.Parts.{wide, zeros}
-use Rattle.float_ground.proofs.Shifted.{value_by, normal-value}
+use Rattle.float_ground.proofs.Shifted.{value_by, normal_value}
 use Rattle.float_ground.proofs.root.normal32.Statement.{statement}
 use Rattle.float_ground.proofs.root.normal32.Tie as tie
 
@@ -23,7 +23,7 @@ returns c =
     let digits : t % 2 ^ wide binary32 + 2 ^ wide binary32 ≡ (b % hid binary32 + hid binary32) * 2 ^ 8 = omega arith in
     let sum : field - 1 + (low binary32 + low binary32 + 1 - zeros binary32) ≡ 8 + (field + 125) + low binary32 = omega (arith, c.before.requires.0) in
     c.root32.ensures (of_bits binary32 b) (value_by binary32 (of_bits binary32 b) (b % hid binary32 + hid binary32) (field - 1) 8 (field + 125) t
-    (normal-value binary32 b c.before.requires.0 c.before.requires.1) digits sum)
+    (normal_value binary32 b c.before.requires.0 c.before.requires.1) digits sum)
 
 pub normal32-spec : {M : Type 1} → statement M
 normal32-spec = tie.close (tie.spec add-root32 root32-requires returns)

@@ -5,7 +5,7 @@ use Prim.Native.Nat.{◌+◌, ◌-◌, ◌*◌, ◌/◌, ◌%◌, ◌^◌}
 use native.Mathlib.Omega.{arith}
 use lib.Ieee.{binary64, low, hid, of_bits}
 use Rattle.float_ground.specs.Parts.{wide, zeros}
-use Rattle.float_ground.proofs.Shifted.{value_by, normal-value}
+use Rattle.float_ground.proofs.Shifted.{value_by, normal_value}
 use Rattle.float_ground.proofs.root.normal64.Statement.{statement}
 use Rattle.float_ground.proofs.root.normal64.Tie as tie
 
@@ -23,7 +23,7 @@ returns c =
     let digits : t % 2 ^ wide binary64 + 2 ^ wide binary64 ≡ (b % hid binary64 + hid binary64) * 2 ^ 1 = omega arith in
     let sum : field - 1 + (low binary64 + low binary64 + 1 - zeros binary64) ≡ 1 + (field + 1021) + low binary64 = omega (arith, c.before.requires.0) in
     c.root64.ensures (of_bits binary64 b) (value_by binary64 (of_bits binary64 b) (b % hid binary64 + hid binary64) (field - 1) 1 (field + 1021) t
-    (normal-value binary64 b c.before.requires.0 c.before.requires.1) digits sum)
+    (normal_value binary64 b c.before.requires.0 c.before.requires.1) digits sum)
 
 pub normal64-spec : {M : Type 1} → statement M
 normal64-spec = tie.close (tie.spec add-root64 root64-requires returns)

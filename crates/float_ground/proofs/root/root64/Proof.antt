@@ -4,7 +4,7 @@ use mathlib.Core.Path.{sym, subst}
 use Prim.Native.Nat.{ℕ, ◌+◌, ◌*◌, ◌/◌, ◌≤◌}
 use native.Mathlib.Omega.{arith}
 use lib.Ieee.{binary64, hid, ones, of_bits}
-use Rattle.float_laws.proofs.Patterns.{plain-small}
+use Rattle.float_laws.proofs.Patterns.{plain_small}
 use Rattle.float_ground.specs.Parts.{RootBy}
 use Rattle.float_ground.proofs.Rooting.{most, rooted}
 use Rattle.float_ground.proofs.root.root64.Statement.{statement}
@@ -35,7 +35,7 @@ add-result : tie.Need-overflow-add-result
 add-result c = record { fits = omega (arith, pattern-le c) }
 
 float-from-bits-result : tie.Need-float-from-bits-result
-float-from-bits-result c = plain-small binary64 (g c / 2 * hid binary64 + c.root53.result) (pattern-le c)
+float-from-bits-result c = plain_small binary64 (g c / 2 * hid binary64 + c.root53.result) (pattern-le c)
 
 returns : tie.Need-returns
 returns c =

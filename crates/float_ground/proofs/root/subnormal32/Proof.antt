@@ -8,7 +8,7 @@ use lib.Count.{count_leading_zeros}
 use lib.Ieee.{binary32, low, of_bits}
 use Rattle.float_ground.specs.Parts.{wide, zeros}
 use Rattle.float_ground.proofs.Apart.{Shift, shift}
-use Rattle.float_ground.proofs.Shifted.{leading, value_by, subnormal-value}
+use Rattle.float_ground.proofs.Shifted.{leading, value_by, subnormal_value}
 use Rattle.float_ground.proofs.root.subnormal32.Statement.{statement}
 use Rattle.float_ground.proofs.root.subnormal32.Tie as tie
 
@@ -45,7 +45,7 @@ returns c =
     ap (λ (y : ℕ). y % 2 ^ 31 + 2 ^ 31) (t-is a) ∙ leading (b a * 2 ^ z a) (2 ^ 31) (of-b a).at_least (of-b a).under in
     let sum : 0 + (low binary32 + low binary32 + 1 - zeros binary32) ≡ z a + (134 - z a) + low binary32 = omega (arith, (of-b a).few) in
     c.root32.ensures (of_bits binary32 (b a)) (value_by binary32 (of_bits binary32 (b a)) (b a) 0 (z a) (134 - z a) t
-    (subnormal-value binary32 (b a) a.requires.1) digits sum)
+    (subnormal_value binary32 (b a) a.requires.1) digits sum)
 
 pub subnormal32-spec : {M : Type 1} → statement M
 subnormal32-spec = tie.close (tie.spec sub-root32 shl-root32 root32-requires returns)

@@ -8,7 +8,7 @@ use lib.Count.{count_leading_zeros}
 use lib.Ieee.{binary64, low, of_bits}
 use Rattle.float_ground.specs.Parts.{wide, zeros}
 use Rattle.float_ground.proofs.Apart.{Shift, shift}
-use Rattle.float_ground.proofs.Shifted.{leading, value_by, subnormal-value}
+use Rattle.float_ground.proofs.Shifted.{leading, value_by, subnormal_value}
 use Rattle.float_ground.proofs.root.subnormal64.Statement.{statement}
 use Rattle.float_ground.proofs.root.subnormal64.Tie as tie
 
@@ -51,7 +51,7 @@ returns c =
     ap (λ (y : ℕ). y % 2 ^ 53 + 2 ^ 53) (t-is a) ∙ leading (b a * 2 ^ z a) (2 ^ 53) (of-b a).at_least (of-b a).under in
     let sum : 0 + (low binary64 + low binary64 + 1 - zeros binary64) ≡ z a + (1023 - z a) + low binary64 = omega (arith, (of-b a).few) in
     c.root64.ensures (of_bits binary64 (b a)) (value_by binary64 (of_bits binary64 (b a)) (b a) 0 (z a) (1023 - z a) t
-    (subnormal-value binary64 (b a) a.requires.1) digits sum)
+    (subnormal_value binary64 (b a) a.requires.1) digits sum)
 
 pub subnormal64-spec : {M : Type 1} → statement M
 subnormal64-spec = tie.close (tie.spec sub-z cast-z sub-root64 shl-root64 root64-requires returns)

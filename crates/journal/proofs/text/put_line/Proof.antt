@@ -3,7 +3,7 @@
 use Rattle.std.proofs.Common.{◌≡◌, ℕ, ◌+◌, ◌*◌, length, set, refl, ap, ◌∙◌, arith, length-set, rules}
 use lib.Seq.{sets, length-sets}
 use Rattle.journal.specs.Text.{digit_of, hex_of, line_of}
-use Rattle.journal.proofs.Hex.{length-line, stored-line}
+use Rattle.journal.proofs.Hex.{length_line, stored_line}
 use Rattle.journal.proofs.text.put_line.Statement.{statement}
 use Rattle.journal.proofs.text.put_line.Tie as tie
 
@@ -49,10 +49,10 @@ returns : tie.Need-returns
 returns c =
     let a = c.before.before.before.before.before.before.before.args in
     let bs = a.payload.now in
-    let z : 2 * length bs + 2 + 1 ≡ length (line_of a.kind bs) = omega (arith, length-line a.kind bs) in
+    let z : 2 * length bs + 2 + 1 ≡ length (line_of a.kind bs) = omega (arith, length_line a.kind bs) in
     let d : c.before.before.before.before.digit.result ≡ digit_of a.kind = c.before.before.before.before.digit.ensures in (
       z,
-      stored-line a.kind bs a.out.now c.before.before.put-hex.new.0 (2 * length bs + 2) refl
+      stored_line a.kind bs a.out.now c.before.before.put-hex.new.0 (2 * length bs + 2) refl
           (c.before.before.put-hex.ensures ∙ ap (λ (x : ℕ). sets (set (set a.out.now 0 x) 1 32) 2 (hex_of bs)) d),
     )
 

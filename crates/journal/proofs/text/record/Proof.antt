@@ -2,7 +2,7 @@
 use Rattle.std.proofs.Common.{◌≡◌, ◌≤◌, length, sym, ap, ◌∙◌, arith, length-take-le, rules}
 use lib.Seq.{length-sets}
 use Rattle.journal.specs.Text.{line_of}
-use Rattle.journal.proofs.Hex.{length-line}
+use Rattle.journal.proofs.Hex.{length_line}
 use Rattle.journal.proofs.text.record.Statement.{statement}
 use Rattle.journal.proofs.text.record.Tie as tie
 
@@ -15,7 +15,7 @@ put-line-requires c κs = search rules
 array-share-prefix-room : tie.Need-array-share-prefix-room
 array-share-prefix-room c =
     let a = c.before.before.before.before.before.before.args in
-    rw (c.before.put-line.ensures.1, length-sets) (omega (arith, c.before.put-line.ensures.0, length-line a.kind a.payload.now))
+    rw (c.before.put-line.ensures.1, length-sets) (omega (arith, c.before.put-line.ensures.0, length_line a.kind a.payload.now))
 
 slice-aggregate-write-all : tie.Need-slice-aggregate-write-all
 slice-aggregate-write-all c = sym (length-take-le c.before.before.put-line.result c.before.before.put-line.new.0 (array-share-prefix-room c.before))

@@ -2,7 +2,7 @@
 -- pattern is the largest less -1 less the number. Assumes nothing.
 use native.Mathlib.Omega.{arith}
 use lib.Signed.{mag}
-use Rattle.records.proofs.Signed.{whole, turned, fits-back, back}
+use Rattle.records.proofs.Signed.{whole, turned, fits_back, back}
 use Rattle.records.proofs.numbers.pattern.Statement.{statement}
 use Rattle.records.proofs.numbers.pattern.Tie as tie
 
@@ -14,7 +14,7 @@ sub-result c = rw (turned c.before.args.z c.before.ranges.z c.if1.false).0 (reco
 
 cast-result-2 : tie.Need-overflow-cast-result-2
 cast-result-2 c =
-    rw (turned c.before.args.z c.before.ranges.z c.if1.false).0 (fits-back (mag c.before.args.z) c.before.ranges.z.sfits)
+    rw (turned c.before.args.z c.before.ranges.z c.if1.false).0 (fits_back (mag c.before.args.z) c.before.ranges.z.sfits)
 
 sub-result-2 : tie.Need-overflow-sub-result-2
 sub-result-2 c =

@@ -5,7 +5,7 @@ use lib.ListN.{length-set}
 use Prim.Native.Nat.{◌/◌, ◌%◌}
 use borrow.Author.Rules.{rules}
 use Rattle.records.specs.Numbers.{two}
-use Rattle.records.proofs.Stores.{stored-two}
+use Rattle.records.proofs.Stores.{stored_two}
 use Rattle.records.proofs.numbers.put_half.Statement.{statement}
 use Rattle.records.proofs.numbers.put_half.Tie as tie
 
@@ -29,7 +29,7 @@ same_length c = search rules
 
 returns : tie.Need-returns
 unfolding two
-returns c = stored-two c.args.out.now c.args.at (c.args.n % 256) (c.args.n / 256 % 256)
+returns c = stored_two c.args.out.now c.args.at (c.args.n % 256) (c.args.n / 256 % 256)
 
 pub put-half-spec : {M : Type 1} → statement M
 put-half-spec =

@@ -5,7 +5,7 @@ use lib.ListN.{length-set}
 use Prim.Native.Nat.{◌/◌, ◌%◌}
 use borrow.Author.Rules.{rules}
 use Rattle.records.specs.Numbers.{four}
-use Rattle.records.proofs.Stores.{stored-four}
+use Rattle.records.proofs.Stores.{stored_four}
 use Rattle.records.proofs.numbers.put_word.Statement.{statement}
 use Rattle.records.proofs.numbers.put_word.Tie as tie
 
@@ -47,7 +47,7 @@ same_length c = search rules
 
 returns : tie.Need-returns
 unfolding four
-returns c = stored-four c.args.out.now c.args.at (c.args.n % 256) (c.args.n / 256 % 256) (c.args.n / 65536 % 256) (c.args.n / 16777216 % 256)
+returns c = stored_four c.args.out.now c.args.at (c.args.n % 256) (c.args.n / 256 % 256) (c.args.n / 65536 % 256) (c.args.n / 16777216 % 256)
 
 pub put-word-spec : {M : Type 1} → statement M
 put-word-spec =

@@ -3,7 +3,7 @@
 use native.Mathlib.Omega.{arith}
 use Prim.Native.Nat.{◌-◌}
 use borrow.Author.Rules.{rules}
-use Rattle.records.proofs.Signed.{turned-fits, low_half, high_half}
+use Rattle.records.proofs.Signed.{turned_fits, low_half, high_half}
 use Rattle.records.proofs.numbers.signed.Statement.{statement}
 use Rattle.records.proofs.numbers.signed.Tie as tie
 
@@ -17,7 +17,7 @@ cast-result-2 : tie.Need-overflow-cast-result-2
 cast-result-2 c = search rules
 
 sub-result-2 : tie.Need-overflow-sub-result-2
-sub-result-2 c = turned-fits (4294967295 - c.before.args.w) (omega arith)
+sub-result-2 c = turned_fits (4294967295 - c.before.args.w) (omega arith)
 
 returns : tie.Need-returns
 returns c = low_half c.before.args.w c.if1.true

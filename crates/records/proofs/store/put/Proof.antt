@@ -5,9 +5,9 @@ use mathlib.Core.Path.{◌≡◌}
 use Prim.Native.Nat.{◌+◌, ◌*◌, ◌-◌}
 use lib.ListN.{length}
 use borrow.Author.Rules.{rules}
-use Rattle.records.proofs.Stores.{length-bytes_for, stored-all, fits, fits_not}
+use Rattle.records.proofs.Stores.{length-bytes_for, stored_all, fits, fits_not}
 use Rattle.records.specs.Record.{bytes_for}
-use Rattle.records.proofs.Patterns.{all-below}
+use Rattle.records.proofs.Patterns.{all_below}
 use Rattle.records.proofs.store.put.Statement.{statement}
 use Rattle.records.proofs.store.put.Tie as tie
 
@@ -21,7 +21,7 @@ returns : tie.Need-returns
 returns c =
     let a = c.before.before.before.args in
     let both = fits_not a.out.now (bytes_for a.kind a.words.now) a.at (6 + 4 * length a.words.now) (length-bytes_for a.kind a.words.now) (omega arith) in
-    (both.0, (both.1, all-below a.words.now (λ i. omega (arith, c.before.shared-slice-known.given i))))
+    (both.0, (both.1, all_below a.words.now (λ i. omega (arith, c.before.shared-slice-known.given i))))
 
 sub-if2 : tie.Need-overflow-sub-if2
 sub-if2 c = search rules
@@ -30,7 +30,7 @@ returns-2 : tie.Need-returns-2
 returns-2 c =
     let a = c.before.before.before.before.args in
     let both = fits_not a.out.now (bytes_for a.kind a.words.now) a.at (6 + 4 * length a.words.now) (length-bytes_for a.kind a.words.now) (omega arith) in
-    (both.0, (both.1, all-below a.words.now (λ i. omega (arith, c.before.before.shared-slice-known.given i))))
+    (both.0, (both.1, all_below a.words.now (λ i. omega (arith, c.before.before.shared-slice-known.given i))))
 
 sub-length : tie.Need-overflow-sub-length
 sub-length c = search rules
@@ -67,9 +67,9 @@ returns-3 c =
     let done = c.before.before.put-words.new.0 in
     let both = fits a.out.now (bytes_for a.kind a.words.now) a.at (6 + 4 * n) (length-bytes_for a.kind a.words.now)
     c.before.before.before.before.before.before.before.before.before.before.before.before.before.if1.false c.before.before.before.before.before.before.before.before.before.before.before.before.if2.false done
-    (stored-all a.kind (6 + 4 * n - 4) a.words.now a.out.now c.before.before.before.before.before.before.before.before.before.before.put_word.new.0 c.before.before.before.before.before.before.put-half.new.0 done a.at z
+    (stored_all a.kind (6 + 4 * n - 4) a.words.now a.out.now c.before.before.before.before.before.before.before.before.before.before.put_word.new.0 c.before.before.before.before.before.before.put-half.new.0 done a.at z
     c.before.before.before.before.before.before.before.before.before.before.put_word.ensures c.before.before.before.before.before.before.put-half.ensures c.before.before.put-words.ensures) in
-    (both.0, (both.1, all-below a.words.now (λ i. omega (arith, c.before.before.before.before.before.before.before.before.before.before.before.before.before.before.shared-slice-known.given i))))
+    (both.0, (both.1, all_below a.words.now (λ i. omega (arith, c.before.before.before.before.before.before.before.before.before.before.before.before.before.before.shared-slice-known.given i))))
 
 pub put_spec : {M : Type 1} → statement M
 put_spec =

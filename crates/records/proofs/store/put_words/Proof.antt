@@ -7,7 +7,7 @@ use Prim.Native.Nat.{ℕ, ◌+◌, ◌*◌, ◌-◌, ◌≤◌, ◌<◌}
 use lib.ListN.{length, drop, get_or}
 use lib.Seq.{sets, length-sets, drop-length}
 use Rattle.records.specs.Numbers.{fours, four}
-use Rattle.records.proofs.Stores.{more-words}
+use Rattle.records.proofs.Stores.{more_words}
 use Rattle.records.proofs.store.put_words.Statement.{statement}
 use Rattle.records.proofs.store.put_words.Tie as tie
 
@@ -50,7 +50,7 @@ loop-again c =
         omega arith,
         (
           ap length e ∙ length-sets x.out x.next (four (get_or s.words.now x.i 0)) ∙ x.invariant.1.1.0,
-          more-words s.words.now x.out l₁ x.i x.next (omega arith) e ∙ x.invariant.1.1.1,
+          more_words s.words.now x.out l₁ x.i x.next (omega arith) e ∙ x.invariant.1.1.1,
         ),
       ),
     )
