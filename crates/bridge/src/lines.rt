@@ -3,7 +3,7 @@ use super::answer;
 use libc::STDIN_FILENO;
 
 // How many bytes of the line at hand are kept, and its number.
-#[derive(Drop)]
+#[derive(Clone, Copy)]
 pub struct Place {
     pub kept: usize,
     pub number: u64,

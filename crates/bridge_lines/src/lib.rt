@@ -1,4 +1,6 @@
 // Bridges, and strokes, as lines of text: a line is read to one of them or to what is wrong with it.
+#![tactic(auto)]
+
 ghost use Rattle.std.specs.Prelude.{◌≡◌};
 ghost use Rattle.bridge_lines.specs.Pad.{pad_of};
 ghost use Rattle.bridge_lines.specs.Reading.{read_of};
@@ -13,7 +15,7 @@ mod scan;
 
 // What is wrong with a line: a word that is no number of the kind that its place takes; a number that is too large or
 // has too many decimals; too few words, eight for a bridge and one for a stroke; too many; more bytes than a line may have.
-#[derive(Drop)]
+#[derive(Clone, Copy)]
 pub enum Fault {
     NoNumber,
     OutOfRange,
@@ -23,14 +25,14 @@ pub enum Fault {
 }
 
 // A bridge, and the level that it is to be cut at.
-#[derive(Drop)]
+#[derive(Clone, Copy)]
 pub struct Bridge {
     pub conic: Conic,
     pub level: u32,
 }
 
 // What a line comes to. A bad line names the place of the word that is wrong, missing or too much, from 1 on.
-#[derive(Drop)]
+#[derive(Clone, Copy)]
 pub enum Line {
     Good(Bridge),
     Blank,
@@ -39,7 +41,7 @@ pub enum Line {
 
 // What a line of a pad's file comes to. A bad bridge or stroke names the place of the number that is wrong, missing or too
 // much, from 1 on.
-#[derive(Drop)]
+#[derive(Clone, Copy)]
 pub enum PadLine {
     Blank,
     Bridge(Bridge),

@@ -4,7 +4,7 @@ ghost use Rattle.bridge_lines.specs.Kinds.{is_of};
 ghost use Rattle.bridge_lines.specs.Words.{before, words_of};
 
 // What is looked for.
-#[derive(Drop)]
+#[derive(Clone, Copy)]
 pub enum Kind {
     Blank,
     NoBlank,

@@ -1,4 +1,6 @@
 // A coordinate as text.
+#![tactic(auto)]
+
 ghost use Rattle.std.specs.Prelude.{◌≡◌};
 ghost use Rattle.bridge_text.specs.Text.{text_of};
 

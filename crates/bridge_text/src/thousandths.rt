@@ -13,8 +13,8 @@ fn held(n: u64) -> u64
 
 // q * 2^j in thousandths.
 fn whole(q: u64, j: u64) -> u64
-    requires fact_1 { q < 2 ^ 24 }
-    requires fact_2 { j < 16 }
+    requires significand { q < 2 ^ 24 }
+    requires shift { j < 16 }
     ensures { result ≡ min (1000 * (q * 2 ^ j)) 1000000000000 }
 {
     held(1000 * (q << j))
@@ -22,8 +22,8 @@ fn whole(q: u64, j: u64) -> u64
 
 // q / 2^k in thousandths, half of one counted up.
 fn part(q: u64, k: u64) -> u64
-    requires fact_1 { q < 2 ^ 24 }
-    requires fact_2 { k ≤ 40 }
+    requires significand { q < 2 ^ 24 }
+    requires places { k ≤ 40 }
     ensures { result ≡ nearest_up (1000 * q) (2 ^ k) }
 {
     let p = 1u64 << k;
@@ -32,8 +32,8 @@ fn part(q: u64, k: u64) -> u64
 
 // q * 2^x / 2^149 in thousandths.
 fn scaled(q: u64, x: u64) -> u64
-    requires fact_1 { q < 2 ^ 24 }
-    requires fact_2 { (0 < x → 2 ^ 23 ≤ q) }
+    requires significand { q < 2 ^ 24 }
+    requires normal { (0 < x → 2 ^ 23 ≤ q) }
     ensures { result ≡ held_of (q * 2 ^ x) (2 ^ 149) }
 {
     if x > 164 {

@@ -8,14 +8,14 @@ use float_ground::Narrowed;
 use point::Point;
 
 // What a chop puts between a start and an end, along one axis: the first half's control, the middle, the second half's control.
-#[derive(Drop)]
+#[derive(Clone, Copy)]
 pub struct Line {
     pub left: f32,
     pub middle: f32,
     pub right: f32,
 }
 
-#[derive(Drop)]
+#[derive(Clone, Copy)]
 pub struct Lines {
     pub x: Line,
     pub y: Line,

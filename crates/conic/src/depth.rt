@@ -6,7 +6,7 @@ ghost use Rattle.conic.specs.Chop.{scale_of, depth_of, chop_at};
 use crate::{Conic, Halves, chopping};
 
 // The scale of a chop, and the weight of the halves.
-#[derive(Drop)]
+#[derive(Clone, Copy)]
 pub struct Depth {
     pub scale: f32,
     pub weight: f32,

@@ -1,5 +1,7 @@
 // Conics: three points, a weight and a rule. How one is halved, and into how many quads it is cut.
 // Carried over from `path_geometry.rs` of tiny-skia-path 0.12.0; the rules, and an answer for each refusal, are added.
+#![tactic(auto)]
+
 ghost use Rattle.std.specs.Prelude.{◌≡◌, false};
 ghost use Rattle.conic.specs.declared.Rule.TheVariants.{Product};
 ghost use Rattle.conic.specs.Between.{product_test, exact_test};
@@ -21,7 +23,7 @@ mod ruling;
 pub use chopping::{Line, Lines, halves as halves_of, is_settled, is_whole, plain_lines};
 
 // A conic from p0 to p2, bent towards p1. All that is cut from it goes by its rule.
-#[derive(Drop)]
+#[derive(Clone, Copy)]
 pub struct Conic {
     pub p0: Point,
     pub p1: Point,
@@ -31,14 +33,14 @@ pub struct Conic {
 }
 
 // What a chop makes of a conic; the halves meet in the middle.
-#[derive(Drop)]
+#[derive(Clone, Copy)]
 pub struct Halves {
     pub first: Conic,
     pub second: Conic,
 }
 
 // Which between test a cut goes by, and along which axes: y alone, by either test, or both, by the exact one.
-#[derive(Drop)]
+#[derive(Clone, Copy)]
 pub enum Rule {
     Product,
     Exact,
@@ -46,7 +48,7 @@ pub enum Rule {
 }
 
 // Why a call does nothing.
-#[derive(Drop)]
+#[derive(Clone, Copy)]
 pub enum Refusal {
     LevelTooHigh,
     BufferTooShort,
@@ -69,7 +71,7 @@ impl Refusal {
 }
 
 // The conic of a lent source.
-#[derive(Drop)]
+#[derive(Clone, Copy)]
 pub enum FromPoints {
     Made(Conic),
     Refused(Refusal),
@@ -88,7 +90,7 @@ impl FromPoints {
 }
 
 // The level at which a conic is to be cut: two to the power of it is the number of quads.
-#[derive(Drop)]
+#[derive(Clone, Copy)]
 pub enum Level {
     Pow2(u32),
     Refused(Refusal),

@@ -5,7 +5,7 @@ ghost use Rattle.conic.specs.Between.{passes};
 use crate::{between_exact, between_product};
 
 // The between test along an axis. One that nothing passes leaves the axis as it is.
-#[derive(Drop)]
+#[derive(Clone, Copy)]
 pub enum Test {
     Never,
     Product,

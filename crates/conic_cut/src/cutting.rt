@@ -37,8 +37,8 @@ fn all_finite(s: &[f32]) -> bool
 
 // Stores all the points of the cut. Where one is not finite, all but the first and the last become c's middle point.
 fn store_cut(out: &mut [f32], c: Conic, level: u32)
-    requires fact_1 { 2 + 4 * 2 ^ level ≤ length out.old }
-    requires fact_2 { level ≤ deepest }
+    requires room { 2 + 4 * 2 ^ level ≤ length out.old }
+    requires depth { level ≤ deepest }
     ensures { out.new ≡ sets out.old 0 (flat (written chop_by_rule level c)) }
 {
     let at = storing::put(out, 0, c.p0);
@@ -51,8 +51,8 @@ fn store_cut(out: &mut [f32], c: Conic, level: u32)
 
 // Stores c's ends, with its middle point in every place between them.
 fn store_pinned(out: &mut [f32], c: Conic, level: u32)
-    requires fact_1 { 2 + 4 * 2 ^ level ≤ length out.old }
-    requires fact_2 { level ≤ deepest }
+    requires room { 2 + 4 * 2 ^ level ≤ length out.old }
+    requires depth { level ≤ deepest }
     ensures { out.new ≡ sets out.old 0 (flat (pinned level c)) }
 {
     let interior = 2 * quads(level) - 1;
@@ -63,8 +63,8 @@ fn store_pinned(out: &mut [f32], c: Conic, level: u32)
 
 // The same as `store_cut`. Where an end is not finite the points are pinned whatever the cut is, so it is not made.
 pub fn store(out: &mut [f32], c: Conic, level: u32)
-    requires fact_1 { 2 + 4 * 2 ^ level ≤ length out.old }
-    requires fact_2 { level ≤ deepest }
+    requires room { 2 + 4 * 2 ^ level ≤ length out.old }
+    requires depth { level ≤ deepest }
     ensures { out.new ≡ sets out.old 0 (flat (written chop_by_rule level c)) }
 {
     let p0 = c.p0;

@@ -2,6 +2,8 @@
 // the conic's rule puts in order by the exact test, if its middle lies between its ends there or equals one of them: the
 // clause `order` of the contracts. That is y by the exact rule, and x and y by the rule of both axes.
 // Carried over from `path_geometry.rs` of tiny-skia-path 0.12.0; the rule, and an answer for each refusal, are added.
+#![tactic(auto)]
+
 ghost use Rattle.std.specs.Prelude.{◌≡◌, false, ◌≤◌, length};
 ghost use Rattle.conic.specs.declared.Rule.TheVariants.{Product};
 ghost use Rattle.conic.specs.Chop.{conic_from, chop_by_rule};
@@ -18,7 +20,7 @@ mod storing;
 mod subdividing;
 
 // How many quads were written.
-#[derive(Drop)]
+#[derive(Clone, Copy)]
 pub enum Cut {
     Quads(usize),
     Refused(Refusal),
@@ -77,7 +79,7 @@ pub fn chop_into_quads_pow2_from(
 
 // A cut at the level that a tolerance of a quarter chooses, by the crate's own ceiling: 64 places for points, zero where none is
 // written.
-#[derive(Drop)]
+#[derive(Clone, Copy)]
 pub struct AutoConicToQuads {
     pub points: [f32; 128],
     pub answer: Cut,

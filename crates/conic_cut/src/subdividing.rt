@@ -112,9 +112,9 @@ fn in_full(out: &mut [f32], at: usize, rungs: &[f32; RUNGS], c: Conic, level: u3
 // Stores both halves, each cut once more. Mostly the formulas give finite middles and lines that stay, and the points are stored
 // from where they were computed.
 fn put_last(out: &mut [f32], at: usize, rungs: &[f32; RUNGS], h: Halves) -> usize
-    requires fact_1 { at + 16 ≤ length out.old }
-    requires fact_2 { Rungs rungs.now 1 h.first.weight }
-    requires fact_3 { Rungs rungs.now 1 h.second.weight }
+    requires room { at + 16 ≤ length out.old }
+    requires first_half { Rungs rungs.now 1 h.first.weight }
+    requires second_half { Rungs rungs.now 1 h.second.weight }
     ensures { (result ≡ at + 16) × (out.new ≡ sets out.old at
         (flat (cut_points chop_by_rule 1 h.first ++ cut_points chop_by_rule 1 h.second))) }
 {
@@ -181,8 +181,8 @@ fn put_together(c: Conic) -> Conic
 
 // Stores all the points of the cut but the first from `at` on, at any level, and answers the next place.
 pub fn cut(out: &mut [f32], at: usize, c: Conic, level: u32) -> usize
-    requires fact_1 { at + 4 * 2 ^ level ≤ length out.old }
-    requires fact_2 { level ≤ deepest }
+    requires room { at + 4 * 2 ^ level ≤ length out.old }
+    requires depth { level ≤ deepest }
     ensures { (result ≡ at + 4 * 2 ^ level) × (out.new ≡ sets out.old at (flat (cut_points chop_by_rule level c))) }
 {
     if level == 0 {

@@ -1,5 +1,7 @@
 // Cubics, four points by value or eight lent numbers: points and tangents, chops, extrema and inflections.
 // Carried over from `path_geometry.rs` of tiny-skia-path 0.12.0.
+#![tactic(auto)]
+
 ghost use Rattle.std.specs.Prelude.{◌≡◌, ◌≤◌, length};
 ghost use Rattle.quad_roots.specs.Roots.{number_of_roots, values_of_roots, Rising};
 ghost use Rattle.quads.specs.Answers.{number_of_point, values_of_point, eval_number, eval_answer, eval_values};
@@ -10,7 +12,7 @@ use point::Point;
 use quad_roots::Roots;
 use quads::{Chopped, PointAt, lent, steps};
 
-#[derive(Drop)]
+#[derive(Clone, Copy)]
 pub struct Cubic {
     pub p0: Point,
     pub p1: Point,
@@ -19,7 +21,7 @@ pub struct Cubic {
 }
 
 // What the search for inflections answers.
-#[derive(Drop)]
+#[derive(Clone, Copy)]
 pub enum Inflections {
     None,
     One(f32),

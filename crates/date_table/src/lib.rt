@@ -2,6 +2,8 @@
 // is made from a conic, and a time is dated by the entries beside it. Of two times that one table dates, the later never gets
 // the earlier date: specs/Laws.antt, and specs/Forward.antt for which conics a table is made of. Written from docs/RULES.md,
 // "Dates".
+#![tactic(auto)]
+
 ghost use Rattle.std.specs.Prelude.{◌≡◌, ◌+◌, ◌^◌, ◌≤◌, false, length};
 ghost use Rattle.conic.specs.declared.Rule.TheVariants.{BothAxes};
 ghost use Rattle.conic.specs.Source.{conic_of, short_source};
@@ -20,7 +22,7 @@ mod making;
 pub mod whole;
 
 // Why a call does nothing.
-#[derive(Drop)]
+#[derive(Clone, Copy)]
 pub enum Refusal {
     // The conic is to be cut at a level above 6.
     LevelTooHigh,
@@ -53,7 +55,7 @@ impl Refusal {
 }
 
 // How many entries were written.
-#[derive(Drop)]
+#[derive(Clone, Copy)]
 pub enum Made {
     Entries(usize),
     Refused(Refusal),
@@ -72,7 +74,7 @@ impl Made {
 }
 
 // The date of a recorded time.
-#[derive(Drop)]
+#[derive(Clone, Copy)]
 pub enum Dated {
     Date(u32),
     Refused(Refusal),
@@ -91,7 +93,7 @@ impl Dated {
 }
 
 // Whether each of many times was dated; else the place of the first that is outside the table, or why the table is refused.
-#[derive(Drop)]
+#[derive(Clone, Copy)]
 pub enum AllDated {
     Dates,
     OutsideAt(usize),

@@ -8,7 +8,7 @@ ghost use Rattle.date_table.specs.Table.{check_of, part_way, outside, date_in, d
 use super::{AllDated, Dated, Refusal, whole};
 
 // What the test of a table finds.
-#[derive(Drop)]
+#[derive(Clone, Copy)]
 pub enum Check {
     Passed,
     Refused(Refusal),
@@ -66,9 +66,9 @@ fn last_not_above(table: &[u32], r: u32) -> usize
 
 // The date of r between an entry and the next.
 fn part_way(r: u32, x: u32, y: u32, next_x: u32, next_y: u32) -> u32
-    requires fact_1 { x ≤ r }
-    requires fact_2 { r < next_x }
-    requires fact_3 { y ≤ next_y }
+    requires not_before { x ≤ r }
+    requires not_behind { r < next_x }
+    requires rising { y ≤ next_y }
     ensures { result ≡ part_way r x y next_x next_y }
 {
     let part = ((r - x) as u64) * ((next_y - y) as u64) / ((next_x - x) as u64);
@@ -77,9 +77,9 @@ fn part_way(r: u32, x: u32, y: u32, next_x: u32, next_y: u32) -> u32
 
 // The date of r in a table that passed the test, from its first x to its last.
 fn date_in(table: &[u32], r: u32) -> u32
-    requires fact_1 { check_of table.now ≡ Passed }
-    requires fact_2 { first_x table.now ≤ r }
-    requires fact_3 { r ≤ last_x table.now }
+    requires checked { check_of table.now ≡ Passed }
+    requires not_before { first_x table.now ≤ r }
+    requires not_behind { r ≤ last_x table.now }
     ensures { result ≡ date_in table.now r }
 {
     let n = table.len();
@@ -126,8 +126,8 @@ fn first_outside(table: &[u32], times: &[u32]) -> usize
 
 // Stores the date of each time over it; none is outside the table, which passed the test.
 fn date_each(table: &[u32], times: &mut [u32])
-    requires fact_1 { check_of table.now ≡ Passed }
-    requires fact_2 { length times.old ≤ first_outside table.now times.old }
+    requires checked { check_of table.now ≡ Passed }
+    requires inside { length times.old ≤ first_outside table.now times.old }
     ensures { times.new ≡ map (date_in table.now) times.old }
 {
     let mut i = 0;

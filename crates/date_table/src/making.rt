@@ -55,9 +55,9 @@ fn copy_into(out: &mut [u32], from: &[u32])
 // Stores every second point, rounded down to n numbers, in `table`, if they make one. They are rounded into another buffer,
 // since nothing may be stored before all are tested.
 fn store_tested(table: &mut [u32], rounded: &mut [u32], points: &[f32], n: usize) -> Check
-    requires fact_1 { length (rounded_of (points_of points.now)) ≡ n }
-    requires fact_2 { n ≤ length table.old }
-    requires fact_3 { n ≤ length rounded.old }
+    requires numbers { length (rounded_of (points_of points.now)) ≡ n }
+    requires table_room { n ≤ length table.old }
+    requires rounded_room { n ≤ length rounded.old }
     ensures value { result ≡ check_of (rounded_of (points_of points.now)) }
     ensures table { table.new ≡ stored_by result table.old (rounded_of (points_of points.now)) }
 {
@@ -72,8 +72,8 @@ fn store_tested(table: &mut [u32], rounded: &mut [u32], points: &[f32], n: usize
 
 // Stores the table of c, if it has one.
 pub fn store(table: &mut [u32], c: Conic, level: u32) -> Made
-    requires fact_1 { level ≤ ceiling }
-    requires fact_2 { table_room level ≤ length table.old }
+    requires depth { level ≤ ceiling }
+    requires room { table_room level ≤ length table.old }
     ensures value { result ≡ made_answer level (length table.old) false c }
     ensures table { table.new ≡ made_table level c false table.old }
 {

@@ -10,7 +10,7 @@ use libc::STDOUT_FILENO;
 pub const ROOM: usize = 2 * ((1 << Conic::MAX_CUT_LEVEL) + 1);
 
 // The bridge that a stroke is dated by: none before the first; the entries of its table; or why there is no table.
-#[derive(Drop)]
+#[derive(Clone, Copy)]
 pub enum AtHand {
     Nothing,
     Table(usize),

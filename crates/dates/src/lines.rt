@@ -4,7 +4,7 @@ use super::answer::{AtHand, ROOM};
 use libc::STDIN_FILENO;
 
 // How many bytes of the line at hand are kept, its number, and the bridge that stands before it.
-#[derive(Drop)]
+#[derive(Clone, Copy)]
 pub struct Place {
     pub kept: usize,
     pub number: u64,

@@ -1,4 +1,6 @@
 // Prints the figures of docs/RULES.md, "Figures", one to a line: what is asked, then the answer.
+#![tactic(auto)]
+
 mod conics;
 mod curves;
 mod dates;

@@ -1,5 +1,7 @@
 // The float ground: what Rust's floats have and Rattle's operators leave out.
 // `is_finite`, `abs`, `as` between `f32` and `f64`, and `sqrt`, as the code of tiny-skia-path 0.12.0 calls them (`scalar.rs`, `path_geometry.rs`, `transform.rs`).
+#![tactic(auto)]
+
 ghost use Rattle.std.specs.Prelude.{◌≡◌};
 ghost use Rattle.std.specs.Float.{binary32, binary64};
 ghost use Rattle.std.specs.Float.Ieee.Scale.{finite};

@@ -6,7 +6,7 @@ use super::pack;
 use super::parts::Width;
 
 // What narrowing answers, with the number.
-#[derive(Drop)]
+#[derive(Clone, Copy)]
 pub enum Narrowed {
     // The value is kept. An infinity and a NaN that are given are.
     Exact(f32),

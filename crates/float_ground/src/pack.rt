@@ -17,9 +17,9 @@ fn up_at_tie(q: u64) -> u64
 
 // m / 2^t, to the nearest whole number, a tie to the even one.
 fn round_shift(m: u64, t: u64) -> u64
-    requires fact_1 { m < 2 ^ 60 }
-    requires fact_2 { 1 ≤ t }
-    requires fact_3 { t ≤ 55 }
+    requires significand { m < 2 ^ 60 }
+    requires some_bits { 1 ≤ t }
+    requires most_bits { t ≤ 55 }
     ensures { result ≡ closest m (2 ^ t) }
 {
     (m + ((1 << (t - 1)) - 1) + up_at_tie(m >> t)) >> t
@@ -85,7 +85,7 @@ pub fn narrowed(t: u64) -> u64
 }
 
 // A float's pattern; nothing for a NaN, whose pattern is left open.
-#[derive(Drop)]
+#[derive(Clone, Copy)]
 pub enum Pattern {
     Nothing,
     Bits(u64),

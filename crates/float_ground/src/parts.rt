@@ -5,7 +5,7 @@ ghost use Rattle.std.specs.Float.Ieee.{hid, ones, of_fields};
 ghost use Rattle.float_ground.specs.Parts.{format_of, layout_of, Normal, TakenApart};
 
 // Which of the two formats is meant.
-#[derive(Drop)]
+#[derive(Clone, Copy)]
 pub enum Width {
     W32,
     W64,
@@ -13,14 +13,14 @@ pub enum Width {
 
 // significand * 2^exponent / 2^1128, with the leading digit of the significand at 2^54: two digits more
 // than an `f64` has, one to round by and one for whatever lies below it.
-#[derive(Drop)]
+#[derive(Clone, Copy)]
 pub struct Parts {
     pub negative: bool,
     pub exponent: u64,
     pub significand: u64,
 }
 
-#[derive(Drop)]
+#[derive(Clone, Copy)]
 pub enum Apart {
     Nan,
     Infinite(bool),
@@ -31,7 +31,7 @@ pub enum Apart {
 // The numbers of a format: the weight of the sign; that of the exponent's field, which is that of the
 // leading digit; the field in an infinity, and the rest of an infinity's pattern; the exponent of the
 // smallest value, written with the significand 1; and how many digits of a normal form it has no room for.
-#[derive(Drop)]
+#[derive(Clone, Copy)]
 pub struct Layout {
     pub sign: u64,
     pub hidden: u64,
@@ -69,10 +69,10 @@ impl Width {
 // m * 2^j smallest values in normal form, the smallest being 2^lowest / 2^1128: m's leading zeros give the
 // shift.
 pub fn normal(negative: bool, m: u64, j: u64, lowest: u64) -> Parts
-    requires fact_1 { 0 < m }
-    requires fact_2 { m < 2 ^ 53 }
-    requires fact_3 { 54 ≤ lowest }
-    requires fact_4 { j + lowest ≤ 2100 }
+    requires above_zero { 0 < m }
+    requires significand { m < 2 ^ 53 }
+    requires least { 54 ≤ lowest }
+    requires exponent { j + lowest ≤ 2100 }
     ensures { Normal negative m (j + lowest) result }
 {
     let z = (u64::leading_zeros(m) - 9) as u64;
@@ -86,9 +86,9 @@ pub fn normal(negative: bool, m: u64, j: u64, lowest: u64) -> Parts
 // What the fields of a pattern stand for, where they are no NaN's. A field of 0 has no leading digit,
 // and counts as a field of 1.
 fn of_fields(w: Width, negative: bool, field: u64, t: u64) -> Apart
-    requires fact_1 { field ≤ ones (format_of w) }
-    requires fact_2 { t < hid (format_of w) }
-    requires fact_3 { (field ≡ ones (format_of w) → t ≡ 0) }
+    requires exponent { field ≤ ones (format_of w) }
+    requires trailing { t < hid (format_of w) }
+    requires no_nan { (field ≡ ones (format_of w) → t ≡ 0) }
     ensures { TakenApart (format_of w) (of_fields (format_of w) negative field t) result }
 {
     let l = w.layout();

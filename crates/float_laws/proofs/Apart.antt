@@ -11,6 +11,8 @@ use lib.Ieee.Scale.{finite}
 
 not_both : (p q : Bool) → (p && q) ≡ false → T p → T q → ⊥
 not_both true true h t u = true≢false h
+not_both true false h t u = elim u [ ]
+not_both false q h t u = elim t [ ]
 
 differ : (a b : ℕ) → (eqb a b && true) ≡ false → a ≡ b → ⊥
 differ a b e z = not_both (eqb a b) true e (eq→eqb z) tt

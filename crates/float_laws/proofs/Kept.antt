@@ -24,6 +24,8 @@ left_is_kept x e = rw (e, ← nan_test x) (go (eq x x))
 -- what is as large as a value that is not zero, and equal to it, has its sign
 alike : (s t : Bool) → T (beq t s) → t ≡ s
 alike true true h = refl
+alike false true h = elim h [ ]
+alike true false h = elim h [ ]
 alike false false h = refl
 
 of_number : (s : Bool) (m : ℕ) (e : ℤ) (r : Float) → T (fits binary64 r) → T (fits binary64 (fin s (suc m) e)) → T (eq r (fin s (suc m) e)) →

@@ -1,5 +1,7 @@
 // Prints a journal: a line for each record, and a last line that says how it ends. It comes from standard input; where arguments
 // name files, one after the other is printed, - being standard input.
+#![tactic(auto)]
+
 mod text;
 mod window;
 

@@ -6,7 +6,7 @@ use records::{Found, Record};
 const ROOM: usize = Record::MAX_RECORD as usize;
 
 // How many bytes of the record at hand are kept, its offset, and whether one was refused, behind which nothing is read.
-#[derive(Drop)]
+#[derive(Clone, Copy)]
 pub struct Place {
     pub kept: usize,
     pub offset: u64,

@@ -1,5 +1,7 @@
 // The correction journal for a caller that has numbers and lent memory alone, as C has: what is answered is a number, and the
 // rest is stored. A record's numbers go as words of 32 bits, a float's as its pattern, so that a NaN keeps its bits.
+#![tactic(auto)]
+
 ghost use Rattle.std.specs.Prelude.{◌≡◌};
 ghost use Rattle.records.specs.Answers.{number_of_found, what_of_found, kind_of_found, words_of_found, next_of_found, number_of_written, values_of_written, number_of_ended, place_of_ended};
 ghost use Rattle.journal_calls.specs.Calls.{first_or, ReadInto, WrittenFrom, EndInto};

@@ -1,4 +1,6 @@
 // Points mapped in place by a transform. Carried over from `transform.rs` of tiny-skia-path 0.12.0; the buffer of numbers is added.
+#![tactic(auto)]
+
 ghost use Rattle.std.specs.Prelude.{◌≡◌, map};
 ghost use Rattle.transform.specs.Mapped.{map_point};
 ghost use Rattle.mapping.specs.Numbers.{number_of_mapping, mapping_answer, mapping_number, mapped_numbers};
@@ -7,7 +9,7 @@ use point::Point;
 use transform::Transform;
 
 // What mapping a buffer of numbers answers.
-#[derive(Drop)]
+#[derive(Clone, Copy)]
 pub enum Mapping {
     Mapped,
     // The numbers are no whole points.

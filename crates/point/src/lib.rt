@@ -1,9 +1,11 @@
 // A point, by value. Carried over from `lib.rs` of tiny-skia-path 0.12.0.
+#![tactic(auto)]
+
 ghost use Rattle.std.specs.Prelude.{◌≡◌};
 ghost use Rattle.float_laws.specs.Formula.{zero32};
 ghost use Rattle.point.specs.Point.{point_finite, point_from};
 
-#[derive(Drop)]
+#[derive(Clone, Copy)]
 pub struct Point {
     pub x: f32,
     pub y: f32,

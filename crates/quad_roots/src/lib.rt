@@ -1,12 +1,14 @@
 // The roots of a quadratic that lie strictly between 0 and 1.
 // Carried over from `path_geometry.rs` of tiny-skia-path 0.12.0.
+#![tactic(auto)]
+
 ghost use Rattle.std.specs.Prelude.{◌≡◌, length};
 ghost use Rattle.quad_roots.specs.Roots as R;
 
 use float_ground::{Narrowed, is_finite_f32, narrow, sqrt_f64, widen};
 
 // A quotient strictly between 0 and 1, if it is one.
-#[derive(Drop)]
+#[derive(Clone, Copy)]
 pub enum Divided {
     None,
     One(f32),
@@ -32,7 +34,7 @@ impl Divided {
 }
 
 // The roots strictly between 0 and 1; two are strictly increasing.
-#[derive(Drop)]
+#[derive(Clone, Copy)]
 pub enum Roots {
     None,
     One(f32),

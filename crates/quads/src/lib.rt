@@ -1,6 +1,8 @@
 // Quads, three points by value or six lent numbers: points and tangents, chops, extrema and maximum curvature;
 // and what cubics share with them.
 // Carried over from `path_geometry.rs` of tiny-skia-path 0.12.0.
+#![tactic(auto)]
+
 ghost use Rattle.std.specs.Prelude.{◌≡◌, ◌≤◌, length};
 ghost use Rattle.quad_roots.specs.Roots.{number_of_divided, values_of_divided, Rising};
 ghost use Rattle.quads.specs.Answers.{number_of_point, values_of_point, number_of_chop, number_of_curvature, values_of_curvature};
@@ -13,7 +15,7 @@ use quad_roots::Divided;
 pub mod lent;
 pub mod steps;
 
-#[derive(Drop)]
+#[derive(Clone, Copy)]
 pub struct Quad {
     pub p0: Point,
     pub p1: Point,
@@ -21,7 +23,7 @@ pub struct Quad {
 }
 
 // What an evaluation or a tangent answers.
-#[derive(Drop)]
+#[derive(Clone, Copy)]
 pub enum PointAt {
     At(Point),
     OutOfRange,
@@ -42,7 +44,7 @@ impl PointAt {
 }
 
 // What a chop answers; its points are in the lent buffer.
-#[derive(Drop)]
+#[derive(Clone, Copy)]
 pub enum Chopped {
     Done,
     OutOfRange,
@@ -63,7 +65,7 @@ impl Chopped {
 }
 
 // What the search for the maximum curvature answers.
-#[derive(Drop)]
+#[derive(Clone, Copy)]
 pub enum Curvature {
     At(f32),
     Undefined,

@@ -1,5 +1,7 @@
 // Conics and transforms as records keep them: each number as the 32 bits of its f32. Bits become a conic of the exact rule or
 // a transform, and these become bits again; what comes back as it was is told in specs/Laws.antt.
+#![tactic(auto)]
+
 ghost use Rattle.std.specs.Prelude.{◌≡◌};
 ghost use Rattle.std.specs.Float.{binary32};
 ghost use Rattle.std.specs.Float.Ieee.{of_bits, to_bits};

@@ -1,6 +1,8 @@
 // The correction journal: records over bytes, read at an offset and written at one into a lent buffer. A record is the length of
 // what follows it in four bytes, its kind in two, and its words in four each, all with the low byte first. What was written
 // before a power cut is read after it, whatever byte the cut was at: specs/Laws.antt. Written from docs/RULES.md, "The journal".
+#![tactic(auto)]
+
 ghost use Rattle.std.specs.Prelude.{◌≡◌};
 ghost use Rattle.records.specs.Answers.{number_of_refusal, number_of_found, number_of_written, number_of_ended};
 ghost use Rattle.records.specs.Reading.{read_of, end_of};
@@ -12,7 +14,7 @@ mod numbers;
 mod store;
 
 // A conic's points and its weight, each number as the 32 bits of its f32, so that a NaN keeps its own. The rule is left out.
-#[derive(Drop)]
+#[derive(Clone, Copy)]
 pub struct ConicBits {
     pub x0: u32,
     pub y0: u32,
@@ -24,7 +26,7 @@ pub struct ConicBits {
 }
 
 // A matrix in the order of `from_row`, each number as the 32 bits of its f32.
-#[derive(Drop)]
+#[derive(Clone, Copy)]
 pub struct TransformBits {
     pub sx: u32,
     pub ky: u32,
@@ -35,7 +37,7 @@ pub struct TransformBits {
 }
 
 // Kinds 1, 2 and 3. A correction is in milliseconds.
-#[derive(Drop)]
+#[derive(Clone, Copy)]
 pub enum Record {
     Conic(ConicBits),
     Transform(TransformBits),
@@ -43,7 +45,7 @@ pub enum Record {
 }
 
 // Why a call does nothing.
-#[derive(Drop)]
+#[derive(Clone, Copy)]
 pub enum Refusal {
     // The record does not fit into the buffer.
     BufferTooShort,
@@ -68,7 +70,7 @@ impl Refusal {
 
 // What stands at an offset: a whole record, and the offset behind it; nothing; a record that is cut off; or what no journal
 // has, with the offset of that record.
-#[derive(Drop)]
+#[derive(Clone, Copy)]
 pub enum Found {
     Whole(Record, usize),
     End,
@@ -91,7 +93,7 @@ impl Found {
 }
 
 // The offset behind the record that was written.
-#[derive(Drop)]
+#[derive(Clone, Copy)]
 pub enum Written {
     To(usize),
     Refused(Refusal),
@@ -110,7 +112,7 @@ impl Written {
 }
 
 // The offset behind the last whole record; or what no journal has, with the offset of that record.
-#[derive(Drop)]
+#[derive(Clone, Copy)]
 pub enum Ended {
     At(usize),
     Refused(Refusal, usize),

@@ -1,6 +1,8 @@
 // Replays a stored list of the original's answers through the C face: each exported call is made again on the same
 // input, with the same contents in lent memory, and what it gives is held to what the original gave. Prints, for each
 // named part of the list, how many of how many were the same.
+#![tactic(auto)]
+
 mod of_buffers;
 mod of_conics;
 mod of_ground;

@@ -4,13 +4,13 @@ use super::{of_buffers, of_conics, of_ground, of_roots, of_shapes, of_transforms
 use libc::{STDIN_FILENO, STDOUT_FILENO};
 
 // Of the part at hand: how many records there were, and in how many the answer was the original's.
-#[derive(Drop)]
+#[derive(Clone, Copy)]
 pub struct Tally {
     pub all: u64,
     pub same: u64,
 }
 
-#[derive(Drop)]
+#[derive(Clone, Copy)]
 pub enum Step {
     More(Tally),
     End(Tally),

@@ -6,7 +6,7 @@ use super::{Computed, Transform};
 use float_ground::{Narrowed, narrow};
 
 // A number that was narrowed, and whether that was not exact.
-#[derive(Drop)]
+#[derive(Clone, Copy)]
 pub struct Entry {
     pub value: f32,
     pub rounded: bool,

@@ -10,7 +10,7 @@ use super::{Computed, Transform, entry};
 use float_ground::widen;
 
 // What inverting answers.
-#[derive(Drop)]
+#[derive(Clone, Copy)]
 pub enum Inversion {
     Inverted(Computed),
     // The determinant of a skewed transform is nearly zero.
@@ -33,7 +33,7 @@ impl Inversion {
 }
 
 // One over the determinant, unless the determinant is nearly zero; and whether narrowing the determinant was not exact.
-#[derive(Drop)]
+#[derive(Clone, Copy)]
 enum InvDeterminant {
     Is(f64, bool),
     NearlyZero,

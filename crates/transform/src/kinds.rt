@@ -7,7 +7,7 @@ use super::scalar::is_nearly_zero_within_tolerance;
 use float_ground::{is_finite_f32, sqrt_f32};
 
 // How much a transform scales, across and up.
-#[derive(Drop)]
+#[derive(Clone, Copy)]
 pub struct Scale {
     pub x: f32,
     pub y: f32,

@@ -1,4 +1,6 @@
 // A transform of the plane: six numbers, by value. Carried over from `transform.rs` of tiny-skia-path 0.12.0.
+#![tactic(auto)]
+
 ghost use Rattle.std.specs.Prelude.{◌≡◌};
 ghost use Rattle.transform.specs.Row.{row_of, identity_row, translate_of, scale_of, skew_of};
 
@@ -13,7 +15,7 @@ pub use invert::Inversion;
 pub use kinds::Scale;
 
 // A point (x, y) goes to (sx * x + kx * y + tx, ky * x + sy * y + ty).
-#[derive(Drop)]
+#[derive(Clone, Copy)]
 pub struct Transform {
     pub sx: f32,
     pub kx: f32,
@@ -24,7 +26,7 @@ pub struct Transform {
 }
 
 // A transform that was computed from others, and whether some narrowing to f32 on the way was not exact.
-#[derive(Drop)]
+#[derive(Clone, Copy)]
 pub struct Computed {
     pub transform: Transform,
     pub rounded: bool,

@@ -1,4 +1,6 @@
 // The nearest whole number to a root, from a stored table. The roots of floats are computed by it.
+#![tactic(auto)]
+
 ghost use Rattle.std.specs.Prelude.{◌≡◌, ◌*◌, ◌^◌};
 ghost use Rattle.whole_roots.specs.Table.{entry_of, has_entry, nearest_root, radicand};
 

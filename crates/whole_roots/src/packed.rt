@@ -207,8 +207,8 @@ fn word(j: u8) -> u32
 
 // The table's entry for k.
 pub fn entry(k: u32) -> u32
-    requires fact_1 { 256 ≤ k }
-    requires fact_2 { k < 1024 }
+    requires low { 256 ≤ k }
+    requires high { k < 1024 }
     ensures { Entry k result }
 {
     let w = word((k >> 2) as u8);

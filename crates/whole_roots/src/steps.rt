@@ -8,8 +8,8 @@ use super::packed;
 // A number r with r <= √n < r + 10.1, for an n of 31 or 32 digits. Of x, the table's root, 98304 - x is 2^31 / x and up to an
 // eighth more, so that seven eighths of it, times what is left, stand for a division.
 fn near(n: u32) -> u32
-    requires fact_1 { 2 ^ 30 ≤ n }
-    requires fact_2 { n < 2 ^ 32 }
+    requires low { 2 ^ 30 ≤ n }
+    requires high { n < 2 ^ 32 }
     ensures { (2 ^ 15 ≤ result) × ((result * result ≤ n) × (n < result * result + 20 * result + 1792)) }
 {
     let x = packed::entry(n >> 22) * 8;
@@ -18,8 +18,8 @@ fn near(n: u32) -> u32
 
 // The nearest whole number to the root of n * 2^16.
 pub fn nearest24(n: u32) -> u32
-    requires fact_1 { 2 ^ 30 ≤ n }
-    requires fact_2 { n < 2 ^ 32 }
+    requires low { 2 ^ 30 ≤ n }
+    requires high { n < 2 ^ 32 }
     ensures { Nearest (n * 2 ^ 16) result }
 {
     let s = near(n);
@@ -36,8 +36,8 @@ pub fn nearest24(n: u32) -> u32
 
 // A number r with r <= √n < r + 2, for an n of 53 or 54 digits.
 fn near27(n: u64) -> u64
-    requires fact_1 { 2 ^ 52 ≤ n }
-    requires fact_2 { n < 2 ^ 54 }
+    requires low { 2 ^ 52 ≤ n }
+    requires high { n < 2 ^ 54 }
     ensures { (2 ^ 26 ≤ result) × ((result * result ≤ n) × (n < result * result + 4 * result)) }
 {
     let h = (n >> 22) as u32;
@@ -48,8 +48,8 @@ fn near27(n: u64) -> u64
 
 // The nearest whole number to the root of n * 2^52.
 pub fn nearest53(n: u64) -> u64
-    requires fact_1 { 2 ^ 52 ≤ n }
-    requires fact_2 { n < 2 ^ 54 }
+    requires low { 2 ^ 52 ≤ n }
+    requires high { n < 2 ^ 54 }
     ensures { Nearest (n * 2 ^ 52) result }
 {
     let s = near27(n);

@@ -4,8 +4,8 @@ ghost use Rattle.whole_roots.specs.Table.{Entry};
 
 // The table's entry for k.
 pub fn entry(k: u32) -> u32
-    requires fact_1 { 256 ≤ k }
-    requires fact_2 { k < 1024 }
+    requires low { 256 ≤ k }
+    requires high { k < 1024 }
     ensures { Entry k result }
 {
     ROOTS[(k - 256) as usize]
