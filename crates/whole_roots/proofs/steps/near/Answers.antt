@@ -1,19 +1,18 @@
--- `whole_roots::steps::near` meets its contract, by the laws of `Heron`. Assumes nothing.
-use borrow.Author.Rules.{rules}
 use mathlib.Core.Path.{◌≡◌}
 use Prim.Native.Nat.{ℕ, ◌+◌, ◌-◌, ◌*◌, ◌/◌, ◌^◌, ◌≤◌, ◌<◌}
 use native.Mathlib.Omega.{arith}
 use Rattle.whole_roots.proofs.Heron as heron
-use Rattle.whole_roots.proofs.steps.near.Statement.{statement}
-use Rattle.whole_roots.proofs.steps.near.Tie as tie
+use Rattle.whole_roots.proofs.steps.near.Goals as goal
+use Rattle.whole_roots.proofs.steps.near.Goals.{After-entry-x}
 
+-- `whole_roots::steps::near` meets its contract, by the laws of `Heron`. Assumes nothing.
 -- the numbers of the code, in the order in which it finds them
-module _ (c : tie.After-entry) where
+module _ (c : After-entry-x) where
   abbrev n : ℕ
-  n = c.before.args.n
+  n = c.args.n
 
   abbrev x : ℕ
-  x = c.entry.result * 8
+  x = c.entry-x.result * 8
 
   abbrev d : ℕ
   d = n - x * x
@@ -28,19 +27,19 @@ module _ (c : tie.After-entry) where
   q = e * (7 * y) / 16777216
 
   x-ge : 32768 ≤ x
-  x-ge = omega (arith, heron.a_ge n c.entry.result c.before.requires.0 c.before.requires.1 c.entry.ensures)
+  x-ge = omega (arith, heron.a_ge n c.entry-x.result c.requires.low c.requires.high c.entry-x.ensures)
 
   x-le : x ≤ 65528
-  x-le = omega (arith, heron.a_lt n c.entry.result c.before.requires.0 c.before.requires.1 c.entry.ensures)
+  x-le = omega (arith, heron.a_lt n c.entry-x.result c.requires.low c.requires.high c.entry-x.ensures)
 
   square_le : x * x ≤ n
-  square_le = heron.square_le n c.entry.result c.before.requires.0 c.before.requires.1 c.entry.ensures
+  square_le = heron.square_le n c.entry-x.result c.requires.low c.requires.high c.entry-x.ensures
 
   d-is : x * x + d ≡ n
   d-is = omega (arith, square_le)
 
   left : d < 16 * x + 4194304
-  left = omega (arith, d-is, heron.left_lt n c.entry.result c.before.requires.0 c.before.requires.1 c.entry.ensures)
+  left = omega (arith, d-is, heron.left_lt n c.entry-x.result c.requires.low c.requires.high c.entry-x.ensures)
 
   of-y : (2147483648 ≤ x * y) × (x * y ≤ 2415919104)
   of-y = let sum : x + y ≡ 98304 = omega (arith, x-le) in let most : x ≤ 65536 = omega (arith, x-le) in heron.product_of x y sum x-ge most
@@ -69,37 +68,28 @@ module _ (c : tie.After-entry) where
   rest_lt : d < 2 * (x * q) + 20 * x + 1792
   rest_lt = heron.rest_lt x d y e q x-ge left of-y.0 of-y.1 e-le e-gt q-le q-gt
 
-entry-requires : tie.Need-entry-requires
-entry-requires c κs = search rules
+pub overflow_mul-x : goal.overflow_mul-x
+overflow_mul-x c = record { fits = omega (arith, x-le c) }
 
-mul-x : tie.Need-overflow-mul-x
-mul-x c = record { fits = omega (arith, x-le c) }
+pub overflow_mul-result : goal.overflow_mul-result
+overflow_mul-result c = record { fits = omega (arith, square_le c) }
 
-mul-result : tie.Need-overflow-mul-result
-mul-result c = record { fits = omega (arith, square_le c) }
+pub overflow_sub-result : goal.overflow_sub-result
+overflow_sub-result c = square_le c
 
-sub-result : tie.Need-overflow-sub-result
-sub-result c = square_le c
+pub overflow_sub-result-2 : goal.overflow_sub-result-2
+overflow_sub-result-2 c = omega (arith, x-le c)
 
-sub-result-2 : tie.Need-overflow-sub-result-2
-sub-result-2 c = omega (arith, x-le c)
+pub overflow_mul-result-3 : goal.overflow_mul-result-3
+overflow_mul-result-3 c = record { fits = fits c }
 
-mul-result-2 : tie.Need-overflow-mul-result-2
-mul-result-2 c = search rules
-
-mul-result-3 : tie.Need-overflow-mul-result-3
-mul-result-3 c = record { fits = fits c }
-
-add-result : tie.Need-overflow-add-result
-add-result c = record { fits = omega (arith, x-le c, q_lt c) }
+pub overflow_add-result : goal.overflow_add-result
+overflow_add-result c = record { fits = omega (arith, x-le c, q_lt c) }
 
 -- of any numbers like these
 near-enough : (n x d q : ℕ) → x * x + d ≡ n → 32768 ≤ x → 2 * (x * q) + q * q ≤ d → d < 2 * (x * q) + 20 * x + 1792 →
     (2 ^ 15 ≤ x + q) × (((x + q) * (x + q) ≤ n) × (n < (x + q) * (x + q) + 20 * (x + q) + 1792))
 near-enough n x d q d-is lo a b = (omega arith, (omega (arith, d-is, a), omega (arith, d-is, b)))
 
-returns : tie.Need-returns
+pub returns : goal.returns
 returns c = near-enough (n c) (x c) (d c) (q c) (d-is c) (x-ge c) (step_le c) (rest_lt c)
-
-pub near-spec : {M : Type 1} → statement M
-near-spec = tie.close (tie.spec entry-requires mul-x mul-result sub-result sub-result-2 mul-result-2 mul-result-3 add-result returns)

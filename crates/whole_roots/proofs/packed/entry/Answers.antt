@@ -1,13 +1,11 @@
--- `whole_roots::packed::entry` meets its contract: there is a word for k / 4, and k's place in it is k % 4. Assumes nothing.
-use borrow.Author.Rules.{rules}
 use mathlib.Core.Path.{◌≡◌, subst}
 use Prim.Native.Nat.{ℕ, zero, suc, ◌+◌, ◌*◌, ◌/◌, ◌%◌, ◌≤◌, ◌<◌}
 use native.Mathlib.Omega.{arith}
 use Rattle.whole_roots.specs.Table.{Entry, lane, Packs, Word}
 use Rattle.whole_roots.proofs.Keys.{some}
-use Rattle.whole_roots.proofs.packed.entry.Statement.{statement}
-use Rattle.whole_roots.proofs.packed.entry.Tie as tie
+use Rattle.whole_roots.proofs.packed.entry.Goals as goal
 
+-- `whole_roots::packed::entry` meets its contract: there is a word for k / 4, and k's place in it is k % 4. Assumes nothing.
 packs : (j w : ℕ) → 64 ≤ j → j < 256 → Word j w → Packs j w
 packs j zero lo hi o = absurd (some 64 192 j lo hi o)
 packs j (suc w) lo hi p = p
@@ -23,33 +21,12 @@ placed j w (suc (suc (suc (suc i)))) h p = absurd (no i h)
     no : (i : ℕ) → suc (suc (suc (suc i))) < 4 → ⊥
     no i h = omega arith
 
-cast-word : tie.Need-overflow-cast-word
-cast-word c = search rules
-
-word-requires : tie.Need-word-requires
-word-requires c κs = search rules
-
-add-result : tie.Need-overflow-add-result
-add-result c = search rules
-
-mul-result : tie.Need-overflow-mul-result
-mul-result c = search rules
-
-shr-result : tie.Need-overflow-shr-result
-shr-result c = search rules
-
-add-result-2 : tie.Need-overflow-add-result-2
-add-result-2 c = search rules
-
-returns : tie.Need-returns
+pub returns : goal.returns
 returns c =
-    let k = c.before.args.k in
-    let w = c.word.result in
+    let k = c.args.k in
+    let w = c.word-w.result in
     let place : 4 * (k / 4) + k % 4 ≡ k = omega arith in
     let lo : 64 ≤ k / 4 = omega arith in
     let hi : k / 4 < 256 = omega arith in
     let few : k % 4 < 4 = omega arith in
-    subst (λ (x : ℕ). Entry x (lane w (k % 4))) place (placed (k / 4) w (k % 4) few (packs (k / 4) w lo hi c.word.ensures))
-
-pub entry_spec : {M : Type 1} → statement M
-entry_spec = tie.close (tie.spec cast-word word-requires add-result mul-result shr-result add-result-2 returns)
+    subst (λ (x : ℕ). Entry x (lane w (k % 4))) place (placed (k / 4) w (k % 4) few (packs (k / 4) w lo hi c.word-w.ensures))
