@@ -1,7 +1,7 @@
+-- `whole_roots::read_alike` meets its contract: both ways of reading the table give the entry, so that they never differ. Assumes nothing.
 use Prim.Native.Nat.{◌-◌, ◌≤◌}
 use Rattle.whole_roots.proofs.read_alike.Given as goal
 
--- `whole_roots::read_alike` meets its contract: both ways of reading the table give the entry, so that they never differ. Assumes nothing.
 abbrev pub invariant-loop-k : goal.invariant-loop-k
 invariant-loop-k l = (256 ≤ l.k) × (l.k ≤ 1024)
 

@@ -1,3 +1,4 @@
+-- `whole_roots::root24` meets its contract: there is one nearest whole number. Assumes nothing.
 use Prim.Native.Nat.{ℕ, ◌*◌, ◌^◌, ◌≤◌, ◌<◌}
 use native.Mathlib.Omega.{arith}
 use lib.Dec.{lit<}
@@ -6,7 +7,6 @@ use Rattle.whole_roots.proofs.Only.{nearest_is}
 use Rattle.whole_roots.proofs.Radicand.{radicand_in}
 use Rattle.whole_roots.proofs.root24.Goals as goal
 
--- `whole_roots::root24` meets its contract: there is one nearest whole number. Assumes nothing.
 of-n : (g t : ℕ) → (2 ^ 30 ≤ radicand 31 g t) × (radicand 31 g t < 2 ^ 32)
 of-n g t = radicand_in (2 ^ 30) g t (lit< tt)
 

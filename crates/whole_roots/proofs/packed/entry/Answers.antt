@@ -1,3 +1,4 @@
+-- `whole_roots::packed::entry` meets its contract: there is a word for k / 4, and k's place in it is k % 4. Assumes nothing.
 use mathlib.Core.Path.{◌≡◌, subst}
 use Prim.Native.Nat.{ℕ, zero, suc, ◌+◌, ◌*◌, ◌/◌, ◌%◌, ◌≤◌, ◌<◌}
 use native.Mathlib.Omega.{arith}
@@ -5,7 +6,6 @@ use Rattle.whole_roots.specs.Table.{Entry, lane, Packs, Word}
 use Rattle.whole_roots.proofs.Keys.{some}
 use Rattle.whole_roots.proofs.packed.entry.Goals as goal
 
--- `whole_roots::packed::entry` meets its contract: there is a word for k / 4, and k's place in it is k % 4. Assumes nothing.
 packs : (j w : ℕ) → 64 ≤ j → j < 256 → Word j w → Packs j w
 packs j zero lo hi o = absurd (some 64 192 j lo hi o)
 packs j (suc w) lo hi p = p

@@ -1,3 +1,4 @@
+-- `whole_roots::steps::near` meets its contract, by the laws of `Heron`. Assumes nothing.
 use mathlib.Core.Path.{◌≡◌}
 use Prim.Native.Nat.{ℕ, ◌+◌, ◌-◌, ◌*◌, ◌/◌, ◌^◌, ◌≤◌, ◌<◌}
 use native.Mathlib.Omega.{arith}
@@ -5,7 +6,6 @@ use Rattle.whole_roots.proofs.Heron as heron
 use Rattle.whole_roots.proofs.steps.near.Goals as goal
 use Rattle.whole_roots.proofs.steps.near.Goals.{After-entry-x}
 
--- `whole_roots::steps::near` meets its contract, by the laws of `Heron`. Assumes nothing.
 -- the numbers of the code, in the order in which it finds them
 module _ (c : After-entry-x) where
   abbrev n : ℕ

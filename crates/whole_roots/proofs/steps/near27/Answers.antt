@@ -1,3 +1,4 @@
+-- `whole_roots::steps::near27` meets its contract, by the laws of `Heron`. Assumes nothing.
 use mathlib.Core.Path.{◌≡◌, ap, ◌∙◌, subst}
 use Prim.Native.Nat.{ℕ, ◌+◌, ◌-◌, ◌*◌, ◌/◌, ◌%◌, ◌≤◌, ◌<◌}
 use native.Mathlib.Omega.{arith}
@@ -6,7 +7,6 @@ use Rattle.whole_roots.proofs.Only.{root_lt}
 use Rattle.whole_roots.proofs.steps.near27.Goals as goal
 use Rattle.whole_roots.proofs.steps.near27.Goals.{After-near-s}
 
--- `whole_roots::steps::near27` meets its contract, by the laws of `Heron`. Assumes nothing.
 -- r is near the root of m
 abbrev Near : ℕ → ℕ → Type 0
 Near m r = (67108864 ≤ r) × ((r * r ≤ m) × (m < r * r + 4 * r))

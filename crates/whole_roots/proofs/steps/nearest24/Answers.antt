@@ -1,3 +1,4 @@
+-- `whole_roots::steps::nearest24` meets its contract, by the laws of `Last`. Assumes nothing.
 use mathlib.Core.Path.{◌≡◌, subst}
 use Prim.Native.Nat.{ℕ, ◌+◌, ◌-◌, ◌*◌, ◌≤◌, ◌<◌}
 use native.Mathlib.Nat.{mul-le-mul_right}
@@ -8,7 +9,6 @@ use Rattle.whole_roots.proofs.Only.{root_lt}
 use Rattle.whole_roots.proofs.steps.nearest24.Goals as goal
 use Rattle.whole_roots.proofs.steps.nearest24.Goals.{After-near-s}
 
--- `whole_roots::steps::nearest24` meets its contract, by the laws of `Last`. Assumes nothing.
 module _ (c : After-near-s) where
   abbrev n : ℕ
   n = c.args.n

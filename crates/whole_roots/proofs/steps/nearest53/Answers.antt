@@ -1,3 +1,4 @@
+-- `whole_roots::steps::nearest53` meets its contract, by the laws of `Last`. Assumes nothing.
 use mathlib.Core.Path.{◌≡◌, subst}
 use mathlib.Core.Logic.{◌⊎◌, inl, inr}
 use Prim.Native.Nat.{ℕ, ◌+◌, ◌-◌, ◌*◌, ◌≤◌, ◌<◌}
@@ -10,7 +11,6 @@ use Rattle.whole_roots.proofs.Only.{root_lt}
 use Rattle.whole_roots.proofs.steps.nearest53.Goals as goal
 use Rattle.whole_roots.proofs.steps.nearest53.Goals.{After-near27-s}
 
--- `whole_roots::steps::nearest53` meets its contract, by the laws of `Last`. Assumes nothing.
 -- where p is small by itself, else by the squares
 enough : (p s : ℕ) → 67108864 ≤ s → (p ≤ 25165824) ⊎ (25165824 ≤ p) → 134217728 * p + 67108864 ≤ p * p + 67108864 * s + 3 * p
 enough p s lo (inl l) = omega arith
