@@ -17,14 +17,6 @@ first-end-requires c = omega arith
 pub slice_bounds-line-count : goal.slice_bounds-line-count
 slice_bounds-line-count c = omega arith
 
--- ?? goal slice-bounds-line-start
-pub slice-bounds-line-start : goal.slice-bounds-line-start
-slice-bounds-line-start c = omega arith
-
--- ?? goal slice-bounds-line-end
-pub slice-bounds-line-end : goal.slice-bounds-line-end
-slice-bounds-line-end c = omega arith
-
 pub line-requires : goal.line-requires
 line-requires c = tt
 

@@ -19,14 +19,6 @@ first-end-requires c = omega arith
 pub slice_bounds-text-count : goal.slice_bounds-text-count
 slice_bounds-text-count c = omega arith
 
--- ?? goal slice-bounds-text-start
-pub slice-bounds-text-start : goal.slice-bounds-text-start
-slice-bounds-text-start c = omega arith
-
--- ?? goal slice-bounds-text-end
-pub slice-bounds-text-end : goal.slice-bounds-text-end
-slice-bounds-text-end c = omega arith
-
 pub too_long-requires : goal.too_long-requires
 too_long-requires c = tt
 

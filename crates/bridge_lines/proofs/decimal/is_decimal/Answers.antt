@@ -15,14 +15,6 @@ is_whole-requires c = tt
 pub slice_bounds-is_whole-count : goal.slice_bounds-is_whole-count
 slice_bounds-is_whole-count c = omega arith
 
--- ?? goal slice-bounds-is-whole-start
-pub slice-bounds-is-whole-start : goal.slice-bounds-is-whole-start
-slice-bounds-is-whole-start c = omega arith
-
--- ?? goal slice-bounds-is-whole-end
-pub slice-bounds-is-whole-end : goal.slice-bounds-is-whole-end
-slice-bounds-is-whole-end c = omega arith
-
 pub is_whole-requires-2 : goal.is_whole-requires-2
 is_whole-requires-2 c = tt
 

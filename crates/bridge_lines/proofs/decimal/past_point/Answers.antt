@@ -1,5 +1,5 @@
 -- `decimal::past_point` meets its contract: where there is no point, nothing is behind it. Assumes nothing.
-use Rattle.std.proofs.Common.{◌≡◌, ℕ, ◌+◌, ◌≤◌, List, length, drop, sym, ap, ◌∙◌, arith, drop_of_length-le, drop-drop}
+use Rattle.std.proofs.Common.{◌≡◌, ℕ, ◌+◌, ◌≤◌, List, [], length, drop, sym, ap, ◌∙◌, arith, drop_of_length-le, drop-drop}
 use Rattle.bridge_lines.specs.Kinds.{is_of}
 use Rattle.bridge_lines.specs.Words.{is_point, from}
 use Rattle.bridge_lines.specs.declared.scan.Kind.TheVariants.{Point}
@@ -15,14 +15,6 @@ overflow_add-result c = omega arith
 pub slice_bounds-result-count : goal.slice_bounds-result-count
 slice_bounds-result-count c = omega arith
 
--- ?? goal slice-bounds-result-start
-pub slice-bounds-result-start : goal.slice-bounds-result-start
-slice-bounds-result-start c = omega arith
-
--- ?? goal slice-bounds-result-end
-pub slice-bounds-result-end : goal.slice-bounds-result-end
-slice-bounds-result-end c = omega arith
-
 pub returns-then-at-w : goal.returns-then-at-w
 unfolding is_of
 returns-then-at-w c =
@@ -33,14 +25,6 @@ returns-then-at-w c =
 
 pub slice_bounds-result-count-2 : goal.slice_bounds-result-count-2
 slice_bounds-result-count-2 c = omega arith
-
--- ?? goal slice-bounds-result-start-2
-pub slice-bounds-result-start-2 : goal.slice-bounds-result-start-2
-slice-bounds-result-start-2 c = omega arith
-
--- ?? goal slice-bounds-result-end-2
-pub slice-bounds-result-end-2 : goal.slice-bounds-result-end-2
-slice-bounds-result-end-2 c = omega arith
 
 pub returns : goal.returns
 unfolding is_of

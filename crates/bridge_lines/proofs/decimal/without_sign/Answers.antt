@@ -12,14 +12,6 @@ returns-then-w-eq0 c =
 pub slice_bounds-result-count : goal.slice_bounds-result-count
 slice_bounds-result-count c = omega arith
 
--- ?? goal slice-bounds-result-start
-pub slice-bounds-result-start : goal.slice-bounds-result-start
-slice-bounds-result-start c = omega arith
-
--- ?? goal slice-bounds-result-end
-pub slice-bounds-result-end : goal.slice-bounds-result-end
-slice-bounds-result-end c = omega arith
-
 pub returns-then-w-eq45 : goal.returns-then-w-eq45
 returns-then-w-eq45 c = rw (eq-eqb _ _ c.if-w-eq45.true) (tail c.args.w.now 1)
 

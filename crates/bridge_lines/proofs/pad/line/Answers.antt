@@ -1,5 +1,5 @@
 -- `pad::line` meets its contract: the first word decides, and the words behind it go to the reader of its kind. Assumes nothing.
-use Rattle.std.proofs.Common.{◌≡◌, ℕ, Bool, true, false, List, ◌∷◌, get_or, drop, sym, ap, ◌∙◌}
+use Rattle.std.proofs.Common.{◌≡◌, ℕ, Bool, true, false, List, [], ◌∷◌, get_or, drop, sym, ap, ◌∙◌}
 use Rattle.bridge_lines.specs.Pad.{same, bridge_word, stroke_word, other_of, pad_line_of}
 use Rattle.bridge_lines.specs.Words.{words_of}
 use Rattle.bridge_lines.proofs.Judging.{ends, goes}

@@ -1,5 +1,5 @@
 -- `pad::other` meets its contract: there is an eighth word exactly where there are more than seven. Assumes nothing.
-use Rattle.std.proofs.Common.{◌≡◌, ℕ, ◌<◌, ◌≤◌, List, length, get_or, ap, arith, length-drop, le-ltb, lt-ltb}
+use Rattle.std.proofs.Common.{◌≡◌, ℕ, ◌<◌, ◌≤◌, List, [], length, get_or, ap, arith, length-drop, le-ltb, lt-ltb}
 use Rattle.bridge_lines.specs.Pad.{other_of}
 use Rattle.bridge_lines.specs.Words.{words_of}
 use Rattle.bridge_lines.proofs.Judging.{ends, goes}

@@ -13,14 +13,6 @@ first-end-requires c = omega arith
 pub slice_bounds-result-count : goal.slice_bounds-result-count
 slice_bounds-result-count c = omega arith
 
--- ?? goal slice-bounds-result-start
-pub slice-bounds-result-start : goal.slice-bounds-result-start
-slice-bounds-result-start c = omega arith
-
--- ?? goal slice-bounds-result-end
-pub slice-bounds-result-end : goal.slice-bounds-result-end
-slice-bounds-result-end c = omega arith
-
 pub returns : goal.returns
 returns c =
     let text : List ℕ = c.args.text.now in

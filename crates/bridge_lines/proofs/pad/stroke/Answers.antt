@@ -1,5 +1,5 @@
 -- `pad::stroke` meets its contract: each answer goes by the words that led to it. Assumes nothing.
-use Rattle.std.proofs.Common.{◌≡◌, ℕ, ◌<◌, ◌≤◌, min, Bool, true, false, leb, List, ◌∷◌, length, get_or, drop, sym, ◌∙◌, arith, le-leb}
+use Rattle.std.proofs.Common.{◌≡◌, ℕ, ◌<◌, ◌≤◌, min, Bool, true, false, leb, List, [], ◌∷◌, length, get_or, drop, sym, ◌∙◌, arith, le-leb}
 use borrow.Author.Tests.{lt-leb}
 use lib.Dec.{eqb-suc-zero}
 use Rattle.bridge_lines.specs.Decimal.{is_whole, size_of}

@@ -10,14 +10,6 @@ overflow_sub-last c = some c.args.w.now c.requires
 pub slice_bounds-size-count : goal.slice_bounds-size-count
 slice_bounds-size-count c = omega arith
 
--- ?? goal slice-bounds-size-start
-pub slice-bounds-size-start : goal.slice-bounds-size-start
-slice-bounds-size-start c = omega arith
-
--- ?? goal slice-bounds-size-end
-pub slice-bounds-size-end : goal.slice-bounds-size-end
-slice-bounds-size-end c = omega arith
-
 pub size-requires : goal.size-requires
 size-requires c = tt
 

@@ -1,5 +1,5 @@
 -- `pad::too_long` meets its contract: the first word decides. Assumes nothing.
-use Rattle.std.proofs.Common.{◌≡◌, Bool, true, false, get_or, sym, ◌∙◌}
+use Rattle.std.proofs.Common.{◌≡◌, Bool, true, false, [], get_or, sym, ◌∙◌}
 use Rattle.bridge_lines.specs.Pad.{same, stroke_word, too_long_of}
 use Rattle.bridge_lines.specs.Words.{words_of}
 use Rattle.bridge_lines.proofs.pad.too_long.Goals as goal

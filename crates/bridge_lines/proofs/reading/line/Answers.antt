@@ -1,11 +1,11 @@
 -- `reading::line` meets its contract: at each turn the words before are in range, and those left lead to what the line comes to. Assumes nothing.
-use Rattle.std.proofs.Common.{◌≡◌, ℕ, ◌+◌, ◌-◌, ◌<◌, ◌≤◌, Bool, true, false, List, ◌∷◌, length, get_or, drop, sym, refl, ap, ◌∙◌, arith, below_more}
+use Rattle.std.proofs.Common.{◌≡◌, ℕ, ◌+◌, ◌-◌, ◌<◌, ◌≤◌, Bool, true, false, List, [], ◌∷◌, length, get_or, drop, sym, refl, ap, ◌∙◌, arith, below_more}
 use Rattle.bridge_lines.specs.declared.Line.TheVariants.{Good}
 use Rattle.bridge_lines.specs.Reading.{has_form, in_range, judged, bridge_of, line_of}
 use Rattle.bridge_lines.specs.Words.{words_of}
 use Rattle.bridge_lines.proofs.Judging.{ends, goes, blank, too_few, no_number, out_of_range, right, too_many, good}
 use Rattle.bridge_lines.proofs.reading.line.Goals as goal
-use Rattle.bridge_lines.proofs.reading.line.Goals.{After-has_form, After-in_range, Else-w-eq0, Then-w-eq0}
+use Rattle.bridge_lines.proofs.reading.line.Goals.{After-has_form, After-in_range, After-word-w, Else-w-eq0, Then-w-eq0}
 
 none : (j : ℕ) → j < 0 → ⊥
 none j h = omega arith
@@ -15,14 +15,14 @@ some h e = omega arith
 
 -- ---- in the loop, past the word at hand
 abbrev At : Type 0
-At = tie.After-word invariant-loop decreases-loop
+At = After-word-w
 
 abbrev words : At → List (List ℕ)
 words b = words_of b.args.text.now
 
 -- how many were right before it
 abbrev passed : At → ℕ
-passed b = b.loop-k.k
+passed b = b.loop.k
 
 abbrev word : At → List ℕ
 word b = get_or (words b) (passed b) []
@@ -34,19 +34,19 @@ known : (b : At) → judged (passed b + 1) (drop (passed b) (words b)) (Good (br
 known b = b.loop-k.invariant.1.1
 
 -- where it is empty, and where it is not
-past : (c : Then-w-eq0 invariant-loop decreases-loop) → drop (passed c) (words c) ≡ []
+past : (c : Then-w-eq0 → drop (passed c) (words c) ≡ []
 past c =
     ends c.args.text.now (passed c) (rw c.word-w.ensures at c.if-w-eq0.true)
 
-more : (c : Else-w-eq0 invariant-loop decreases-loop) →
+more : (c : Else-w-eq0 →
     drop (passed c) (words c) ≡ word c ∷ drop (passed c + 1) (words c)
 more c = goes (words c) (passed c) (rw c.word-w.ensures at c.if-w-eq0.false)
 
-formed : (c : After-has_form invariant-loop decreases-loop) (t : Bool) → c.has_form.result ≡ t →
+formed : (c : After-has_form   (t : Bool) → c.has_form.result ≡ t →
     has_form (passed c + 1) (word c) ≡ t
 formed c t e = rw (← c.word-w.ensures) (sym c.has_form.ensures ∙ e)
 
-ranged : (c : After-in_range invariant-loop decreases-loop) (t : Bool) → c.dates_in_range.result ≡ t →
+ranged : (c : After-in_range   (t : Bool) → c.dates_in_range.result ≡ t →
     in_range (passed c + 1) (word c) ≡ t
 ranged c t e = rw (← c.word-w.ensures) (sym c.dates_in_range.ensures ∙ e)
 
@@ -96,7 +96,7 @@ loop-k-preserved c =
     let r : in_range (passed b + 1) (word b) ≡ true = ranged c true c.if-not-in_range.false in (
       omega arith,
       (
-        below_more _ _ b.loop-k.invariant.1.0 r,
+        below_more _ _ b.loop.invariant.1.0 r,
         right (words b) (passed b) (known b) (few b) (more c)
             (formed c true c.if-not-has_form.false)
             r,

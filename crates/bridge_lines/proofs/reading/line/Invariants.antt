@@ -1,4 +1,4 @@
-use Rattle.std.proofs.Common.{◌≡◌, ℕ, ◌+◌, ◌-◌, ◌<◌, ◌≤◌, true, get_or, drop}
+use Rattle.std.proofs.Common.{◌≡◌, ℕ, ◌+◌, ◌-◌, ◌<◌, ◌≤◌, true, [], get_or, drop}
 use Rattle.bridge_lines.specs.declared.Line.TheVariants.{Good}
 use Rattle.bridge_lines.specs.Reading.{in_range, judged, bridge_of, line_of}
 use Rattle.bridge_lines.specs.Words.{words_of}

@@ -1,5 +1,5 @@
 -- `reading::value` meets its contract: in range nothing is held, and the sign picks the quotient or its negative. Assumes nothing.
-use Rattle.std.proofs.Common.{◌≡◌, ℕ, ◌+◌, ◌<◌, ◌≤◌, min, Bool, true, false, ltb, List, length, get_or, pos, sym, ◌∙◌, arith, le-ltb, lt-ltb}
+use Rattle.std.proofs.Common.{◌≡◌, ℕ, ◌+◌, ◌<◌, ◌≤◌, min, Bool, true, false, ltb, List, [], length, get_or, pos, sym, ◌∙◌, arith, le-ltb, lt-ltb}
 use lib.Ieee.{binary32, of_int}
 use Rattle.float_laws.specs.Formula.{◌⊘◌}
 use Rattle.bridge_lines.specs.Decimal.{is_negative, decimals, size_of, scale_of, value_of}

@@ -44,14 +44,6 @@ first-end-requires-2 c = omega arith
 pub slice_bounds-result-count : goal.slice_bounds-result-count
 slice_bounds-result-count c = omega arith
 
--- ?? goal slice-bounds-result-start
-pub slice-bounds-result-start : goal.slice-bounds-result-start
-slice-bounds-result-start c = omega arith
-
--- ?? goal slice-bounds-result-end
-pub slice-bounds-result-end : goal.slice-bounds-result-end
-slice-bounds-result-end c = omega arith
-
 pub returns : goal.returns
 returns c =
     let e : c.loop-n.n ≡ c.args.k = omega arith in
