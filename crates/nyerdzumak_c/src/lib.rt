@@ -1,6 +1,5 @@
-// The C face: nyerdzumak's 59 calls, exported under their own names from the static library libnyerdzumak.a. Each has the
-// contract of the function that it calls, word for word, and does nothing else: what a call does is written, and proved, in
-// nyerdzumak. C and Rust have them from include/.
+// The C face: nyerdzumak's 59 calls, exported under their own names. Each is one call of nyerdzumak's, with its contract word
+// for word, since a crate is a library or a static library and not both: what a call does is written, and proved, there.
 #![tactic(auto)]
 
 mod conics;
