@@ -13,4 +13,4 @@ returns-clause-line c =
     let bs = a.payload.now in
     let d : c.digit.result ≡ digit_of a.kind = c.digit.ensures in
     stored_line a.kind bs a.out.now c.put_hex.new.out (2 * length bs + 2) refl
-        (c.put_hex.ensures ∙ ap (λ (x : ℕ). sets (slice_set (slice_set a.out.now 0 x) 1 32) 2 (hex_of bs)) d)
+    (c.put_hex.ensures ∙ ap (λ (x : ℕ). sets (slice_set (slice_set a.out.now 0 x) 1 32) 2 (hex_of bs)) d)
