@@ -59,6 +59,7 @@ PutsInOrder k c = test_along k c.rule ≡ By.Exact
 
 pub true_of : (b : Bool) → T b → b ≡ true
 true_of true t = refl
+true_of false t = elim t [ ]
 
 mended_on : (k : Axis) (c : Conic) (l : Lines) → on k (mended_lines c l) ≡ mended_line k c (on k l)
 mended_on X c l = refl

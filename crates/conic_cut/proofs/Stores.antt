@@ -1,6 +1,6 @@
 -- What the stores of a cut leave in the buffer, for any step and every level. Assumes nothing.
 use mathlib.Core.Path.{◌≡◌, refl, sym, ap, ◌∙◌}
-use mathlib.Core.Bool.{Bool, true, false, cond, ◌&&◌, and_true, and_assoc}
+use mathlib.Core.Bool.{Bool, true, false, cond, ◌&&◌, and-true, and_assoc}
 use mathlib.Core.List.{List, [], ◌∷◌, ◌++◌, append_assoc}
 use Prim.Native.Nat.{ℕ, zero, suc, ◌+◌, ◌-◌, ◌*◌, ◌^◌, ◌≤◌, ◌<◌}
 use native.Mathlib.Nat.{two-pow-succ}
@@ -205,7 +205,7 @@ module _ (f : Conic → Halves) (n : ℕ) (c : Conic) (l l₁ l₂ : List Float)
 -- ---- an end that is not finite
 all_append : (l : List Point) (p : Point) → all_finite (l ++ (p ∷ [])) ≡ (all_finite l && point_finite p)
 unfolding all_finite
-all_append [] p = and_true (point_finite p)
+all_append [] p = and-true (point_finite p)
 all_append (q ∷ l) p = ap (λ (b : Bool). point_finite q && b) (all_append l p) ∙ sym (and_assoc (point_finite q) (all_finite l) (point_finite p))
 
 of_ends : (p a q : Bool) → (p && q) ≡ false → (p && (a && q)) ≡ false

@@ -61,7 +61,7 @@ module _ (f : Format) (n : Parts) (N : Tidy n) where
     where
       at : (k ≡ 0) ⊎ (prec f - 1 + t ≤ 54) → (k ≡ 0) ⊎ (2 ^ (prec f - 1 + t) ≤ m)
       at (inl z) = inl z
-      at (inr h) = inr (le_trans (pow_mono h) N.at_least_lem)
+      at (inr h) = inr (le_trans (pow_mono h) N.at_least)
 
   -- what is left has at most as many digits as the format
   digits_le : (t : ℕ) → 55 ≤ prec f + t → closest m (2 ^ t) ≤ 2 ^ prec f
@@ -69,7 +69,7 @@ module _ (f : Format) (n : Parts) (N : Tidy n) where
 
   digits_ge : (t : ℕ) → prec f - 1 + t ≤ 54 → hid f ≤ closest m (2 ^ t)
   digits_ge t h =
-      closest_ge m (2 ^ t) (hid f) (pow_pos t) (le_trans (le_of_eq (sym (pow-add 2 (prec f - 1) t))) (le_trans (pow_mono h) N.at_least_lem))
+      closest_ge m (2 ^ t) (hid f) (pow_pos t) (le_trans (le_of_eq (sym (pow-add 2 (prec f - 1) t))) (le_trans (pow_mono h) N.at_least))
 
   by : (k t : ℕ) → e + low f + t ≡ 1128 + k → 55 ≤ prec f + t → (k ≡ 0) ⊎ (prec f - 1 + t ≤ 54) →
       k * hid f + closest m (2 ^ t) ≤ ones f * hid f → Packed f n (k * hid f + closest m (2 ^ t))

@@ -217,6 +217,8 @@ passes f x p h g =
     one : (n i z s : Bool) → n ≡ not s → T i → T z → (n && i) ≡ false → (z && s) ≡ false → ⊥
     one n true true true e a c h g = true≢false g
     one n true true false e a c h g = true≢false (sym (ap (λ (y : Bool). y && true) e) ∙ h)
+    one n true false s e a c h g = elim c [ ]
+    one n false z s e a c h g = elim a [ ]
 
 -- and so what passes none and is not below zero is a zero, the infinity or a NaN: each is its own root
 pub own_root : (f : Format) (x : Float) → is_normal f x ≡ false → is_subnormal f x ≡ false → lt x (of_bits f 0) ≡ false → x ≡ root_of f x

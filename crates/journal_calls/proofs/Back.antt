@@ -19,7 +19,7 @@ use Rattle.records.specs.Record.{words_of, count_of, record_of, bytes_for, bytes
 use Rattle.records.specs.Writing.{stored_answer, stored_over, payload, bytes_with, Payload, refuse_words, words_answer, words_written}
 use Rattle.records.proofs.Alone.{written_is_read}
 use Rattle.records.proofs.Together.{Together, together}
-use Rattle.journal_calls.specs.Calls.{first_or, ReadInto, WrittenFrom, Same, WrittenIsRead}
+use Rattle.journal_calls.specs.Calls.{first_or, WrittenFrom, WrittenIsRead}
 
 -- ---- what is given of an answer, by the tests that chose it
 number_of : (b c : Bool) (x : ℕ) → number_of_written (cond b (Refused UnknownKind) (cond c (To x) (Refused BufferTooShort))) ≡ cond b 18 (cond c 0 2)

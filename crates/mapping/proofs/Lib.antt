@@ -1,4 +1,3 @@
 pub mod Agree
-pub mod InPlace
 pub mod Pairs
 pub mod Upto

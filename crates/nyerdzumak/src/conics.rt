@@ -17,16 +17,14 @@ use conic::{Conic, FromPoints, Level, Rule};
 use conic_cut::{AutoConicToQuads, Cut};
 
 // The crate's between test: whether (a - b) * (c - b) is at most 0, as it is computed.
-#[unsafe(no_mangle)]
-pub extern "C" fn nz_between_product(a: f32, b: f32, c: f32) -> bool
+pub fn nz_between_product(a: f32, b: f32, c: f32) -> bool
     ensures { result ≡ product_test a b c }
 {
     conic::between_product(a, b, c)
 }
 
 // Whether a ≤ b ≤ c or a ≥ b ≥ c.
-#[unsafe(no_mangle)]
-pub extern "C" fn nz_between_exact(a: f32, b: f32, c: f32) -> bool
+pub fn nz_between_exact(a: f32, b: f32, c: f32) -> bool
     ensures { result ≡ exact_test a b c }
 {
     conic::between_exact(a, b, c)
@@ -57,8 +55,7 @@ fn give_halves(c: Conic, halves: &mut [f32; 14])
 
 // Halves a conic as the formulas say, with no correction, so that a rule has no part in it: x and y of three points and a
 // weight, for each half.
-#[unsafe(no_mangle)]
-pub extern "C" fn nz_conic_chop(src: &[f32], weight: f32, halves: &mut [f32; 14]) -> u32
+pub fn nz_conic_chop(src: &[f32], weight: f32, halves: &mut [f32; 14]) -> u32
     ensures value { result ≡ refuse_source src.now number_of_refusal 0 }
     ensures halves { halves.new ≡ filled_or halves.old
         (refuse_source src.now values_of_refusal (half_numbers (chop_of (conic_of src.now weight Product)))) }
@@ -91,8 +88,7 @@ fn give_level(answer: Level, level: &mut u32) -> u32
 
 // The least level, from 1 on, at which the estimated distance of the quads from the conic is within the tolerance; at most the
 // ceiling, 4 or 6, where it need not be.
-#[unsafe(no_mangle)]
-pub extern "C" fn nz_conic_compute_quad_pow2(
+pub fn nz_conic_compute_quad_pow2(
     src: &[f32],
     weight: f32,
     tolerance: f32,
@@ -111,13 +107,7 @@ pub extern "C" fn nz_conic_compute_quad_pow2(
 }
 
 // Cuts a conic into 2^level quads by the crate's own between test.
-#[unsafe(no_mangle)]
-pub extern "C" fn nz_conic_chop_into_quads_pow2(
-    src: &[f32],
-    weight: f32,
-    level: u32,
-    out: &mut [f32],
-) -> u32
+pub fn nz_conic_chop_into_quads_pow2(src: &[f32], weight: f32, level: u32, out: &mut [f32]) -> u32
     ensures value { result ≡ refuse_cut level (length out.old) (short_source src.now) number_of_refusal 0 }
     ensures buffer { out.new ≡ cut_buffer chop_by_rule level (conic_of src.now weight Product)
         (short_source src.now) out.old }
@@ -128,8 +118,7 @@ pub extern "C" fn nz_conic_chop_into_quads_pow2(
 // The same by the exact between test. From three finite points whose middle y lies between the end ys or equals one, the
 // ys along the written points keep one direction, rising or falling, whatever the weight. The xs are not put in
 // order.
-#[unsafe(no_mangle)]
-pub extern "C" fn nz_cut_in_order(src: &[f32], weight: f32, level: u32, out: &mut [f32]) -> u32
+pub fn nz_cut_in_order(src: &[f32], weight: f32, level: u32, out: &mut [f32]) -> u32
     ensures value { result ≡ refuse_cut level (length out.old) (short_source src.now) number_of_refusal 0 }
     ensures buffer { out.new ≡ cut_buffer chop_by_rule level (conic_of src.now weight Exact)
         (short_source src.now) out.old }
@@ -141,8 +130,7 @@ pub extern "C" fn nz_cut_in_order(src: &[f32], weight: f32, level: u32, out: &mu
 
 // The same, and the xs are kept in order as the ys are. From three finite points the xs along the written points keep one
 // direction where the middle x lies between the end xs or equals one, and so do the ys where the middle y does.
-#[unsafe(no_mangle)]
-pub extern "C" fn nz_cut_in_order_both(src: &[f32], weight: f32, level: u32, out: &mut [f32]) -> u32
+pub fn nz_cut_in_order_both(src: &[f32], weight: f32, level: u32, out: &mut [f32]) -> u32
     ensures value { result ≡ refuse_cut level (length out.old) (short_source src.now) number_of_refusal 0 }
     ensures buffer { out.new ≡ cut_buffer chop_by_rule level (conic_of src.now weight BothAxes)
         (short_source src.now) out.old }
@@ -175,8 +163,7 @@ fn give_cut(cut: AutoConicToQuads, out: &mut [f32; 128], quads: &mut usize) -> u
 
 // The crate's own choice: the cut by its own between test at the level that a tolerance of a quarter chooses, by its own
 // ceiling.
-#[unsafe(no_mangle)]
-pub extern "C" fn nz_auto_conic_to_quads(
+pub fn nz_auto_conic_to_quads(
     src: &[f32],
     weight: f32,
     out: &mut [f32; 128],

@@ -10,44 +10,38 @@ ghost use Rattle.point.specs.Point.{point_from, point_finite};
 
 use point::Point;
 
-#[unsafe(no_mangle)]
-pub extern "C" fn nz_is_finite_f32(x: f32) -> bool
+pub fn nz_is_finite_f32(x: f32) -> bool
     ensures { result ≡ finite x }
 {
     float_ground::is_finite_f32(x)
 }
 
-#[unsafe(no_mangle)]
-pub extern "C" fn nz_is_finite_f64(x: f64) -> bool
+pub fn nz_is_finite_f64(x: f64) -> bool
     ensures { result ≡ finite x }
 {
     float_ground::is_finite_f64(x)
 }
 
-#[unsafe(no_mangle)]
-pub extern "C" fn nz_abs_f32(x: f32) -> f32
+pub fn nz_abs_f32(x: f32) -> f32
     ensures { result ≡ abs_of x }
 {
     float_ground::abs_f32(x)
 }
 
-#[unsafe(no_mangle)]
-pub extern "C" fn nz_widen(x: f32) -> f64
+pub fn nz_widen(x: f32) -> f64
     ensures { result ≡ x }
 {
     float_ground::widen(x)
 }
 
-#[unsafe(no_mangle)]
-pub extern "C" fn nz_narrow(x: f64) -> f32
+pub fn nz_narrow(x: f64) -> f32
     ensures { result ≡ narrow_of x }
 {
     float_ground::narrow(x).value()
 }
 
 // The same, and what was lost: 0 for nothing, 1 where it was rounded, 2 where it is gone to infinity.
-#[unsafe(no_mangle)]
-pub extern "C" fn nz_narrow_told(x: f64, loss: &mut u32) -> f32
+pub fn nz_narrow_told(x: f64, loss: &mut u32) -> f32
     ensures value { result ≡ narrow_of x }
     ensures loss { loss.new ≡ loss_of (narrowed_of x) }
 {
@@ -56,16 +50,14 @@ pub extern "C" fn nz_narrow_told(x: f64, loss: &mut u32) -> f32
     n.value()
 }
 
-#[unsafe(no_mangle)]
-pub extern "C" fn nz_sqrt_f32(x: f32) -> f32
+pub fn nz_sqrt_f32(x: f32) -> f32
     ensures equal { result ≡ root_of binary32 x }
     ensures nearest { Root binary32 x result }
 {
     float_ground::sqrt_f32(x)
 }
 
-#[unsafe(no_mangle)]
-pub extern "C" fn nz_sqrt_f64(x: f64) -> f64
+pub fn nz_sqrt_f64(x: f64) -> f64
     ensures equal { result ≡ root_of binary64 x }
     ensures nearest { Root binary64 x result }
 {
@@ -73,8 +65,7 @@ pub extern "C" fn nz_sqrt_f64(x: f64) -> f64
 }
 
 // Whether the product of a point's coordinates is finite.
-#[unsafe(no_mangle)]
-pub extern "C" fn nz_point_is_finite(x: f32, y: f32) -> bool
+pub fn nz_point_is_finite(x: f32, y: f32) -> bool
     ensures { result ≡ point_finite (point_from x y) }
 {
     Point { x, y }.is_finite()

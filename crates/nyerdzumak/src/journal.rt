@@ -4,8 +4,7 @@ ghost use Rattle.journal_calls.specs.Calls.{ReadInto, WrittenFrom, EndInto};
 
 // What stands at an offset of a journal: a record, with its kind and its words, the end, or a record that is cut off. `next` is
 // where to go on, which beside a refusal is the offset of the record that is refused.
-#[unsafe(no_mangle)]
-pub extern "C" fn nz_journal_read(
+pub fn nz_journal_read(
     journal: &[u8],
     at: usize,
     what: &mut u32,
@@ -20,8 +19,7 @@ pub extern "C" fn nz_journal_read(
 }
 
 // Writes the record of a kind and its words at an offset of a journal, where there is such a kind and it fits.
-#[unsafe(no_mangle)]
-pub extern "C" fn nz_journal_write(
+pub fn nz_journal_write(
     journal: &mut [u8],
     at: usize,
     kind: u32,
@@ -35,8 +33,7 @@ pub extern "C" fn nz_journal_write(
 
 // The offset behind the last whole record of a journal, read from its start: where to write on. A refused record is no such
 // place, and its offset is stored instead.
-#[unsafe(no_mangle)]
-pub extern "C" fn nz_journal_end(journal: &[u8], end: &mut usize) -> u32
+pub fn nz_journal_end(journal: &[u8], end: &mut usize) -> u32
     ensures { EndInto journal.now result end.new }
 {
     journal_calls::end_into(journal, end)

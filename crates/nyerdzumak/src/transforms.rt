@@ -36,45 +36,35 @@ fn give_told(c: Computed, out: &mut [f32; 6], rounded: &mut bool)
 }
 
 // The matrix that moves nothing.
-#[unsafe(no_mangle)]
-pub extern "C" fn nz_transform_identity(out: &mut [f32; 6])
+pub fn nz_transform_identity(out: &mut [f32; 6])
     ensures { out.new ≡ row_numbers identity_row }
 {
     give(Transform::identity(), out);
 }
 
 // The matrix that moves by (tx, ty).
-#[unsafe(no_mangle)]
-pub extern "C" fn nz_transform_from_translate(tx: f32, ty: f32, out: &mut [f32; 6])
+pub fn nz_transform_from_translate(tx: f32, ty: f32, out: &mut [f32; 6])
     ensures { out.new ≡ row_numbers (translate_of tx ty) }
 {
     give(Transform::from_translate(tx, ty), out);
 }
 
 // The matrix that scales by sx across and by sy up.
-#[unsafe(no_mangle)]
-pub extern "C" fn nz_transform_from_scale(sx: f32, sy: f32, out: &mut [f32; 6])
+pub fn nz_transform_from_scale(sx: f32, sy: f32, out: &mut [f32; 6])
     ensures { out.new ≡ row_numbers (scale_of sx sy) }
 {
     give(Transform::from_scale(sx, sy), out);
 }
 
 // The matrix that skews by kx across and by ky up.
-#[unsafe(no_mangle)]
-pub extern "C" fn nz_transform_from_skew(kx: f32, ky: f32, out: &mut [f32; 6])
+pub fn nz_transform_from_skew(kx: f32, ky: f32, out: &mut [f32; 6])
     ensures { out.new ≡ row_numbers (skew_of kx ky) }
 {
     give(Transform::from_skew(kx, ky), out);
 }
 
 // What b does, and then a.
-#[unsafe(no_mangle)]
-pub extern "C" fn nz_transform_pre_concat(
-    a: &[f32; 6],
-    b: &[f32; 6],
-    out: &mut [f32; 6],
-    rounded: &mut bool,
-)
+pub fn nz_transform_pre_concat(a: &[f32; 6], b: &[f32; 6], out: &mut [f32; 6], rounded: &mut bool)
     ensures out_after { out.new ≡ row_numbers (concat_of (matrix_of a.now) (matrix_of b.now)) }
     ensures rounded { rounded.new ≡ some_lost (concat_narrows (matrix_of a.now) (matrix_of b.now)) }
 {
@@ -82,13 +72,7 @@ pub extern "C" fn nz_transform_pre_concat(
 }
 
 // What a does, and then b.
-#[unsafe(no_mangle)]
-pub extern "C" fn nz_transform_post_concat(
-    a: &[f32; 6],
-    b: &[f32; 6],
-    out: &mut [f32; 6],
-    rounded: &mut bool,
-)
+pub fn nz_transform_post_concat(a: &[f32; 6], b: &[f32; 6], out: &mut [f32; 6], rounded: &mut bool)
     ensures out_after { out.new ≡ row_numbers (concat_of (matrix_of b.now) (matrix_of a.now)) }
     ensures rounded { rounded.new ≡ some_lost (concat_narrows (matrix_of b.now) (matrix_of a.now)) }
 {
@@ -96,8 +80,7 @@ pub extern "C" fn nz_transform_post_concat(
 }
 
 // Scales, and then does what m does.
-#[unsafe(no_mangle)]
-pub extern "C" fn nz_transform_pre_scale(
+pub fn nz_transform_pre_scale(
     m: &[f32; 6],
     sx: f32,
     sy: f32,
@@ -111,8 +94,7 @@ pub extern "C" fn nz_transform_pre_scale(
 }
 
 // Does what m does, and then scales.
-#[unsafe(no_mangle)]
-pub extern "C" fn nz_transform_post_scale(
+pub fn nz_transform_post_scale(
     m: &[f32; 6],
     sx: f32,
     sy: f32,
@@ -126,8 +108,7 @@ pub extern "C" fn nz_transform_post_scale(
 }
 
 // Moves, and then does what m does.
-#[unsafe(no_mangle)]
-pub extern "C" fn nz_transform_pre_translate(
+pub fn nz_transform_pre_translate(
     m: &[f32; 6],
     tx: f32,
     ty: f32,
@@ -141,8 +122,7 @@ pub extern "C" fn nz_transform_pre_translate(
 }
 
 // Does what m does, and then moves.
-#[unsafe(no_mangle)]
-pub extern "C" fn nz_transform_post_translate(
+pub fn nz_transform_post_translate(
     m: &[f32; 6],
     tx: f32,
     ty: f32,
@@ -173,8 +153,7 @@ fn give_inverse(answer: Inversion, out: &mut [f32; 6], rounded: &mut bool) -> u3
 }
 
 // The matrix that undoes m, if all of it is finite.
-#[unsafe(no_mangle)]
-pub extern "C" fn nz_transform_invert(m: &[f32; 6], out: &mut [f32; 6], rounded: &mut bool) -> u32
+pub fn nz_transform_invert(m: &[f32; 6], out: &mut [f32; 6], rounded: &mut bool) -> u32
     ensures value { result ≡ number_of_inversion (invert_of (matrix_of m.now)) }
     ensures out { out.new ≡ filled_or out.old (values_of_inversion (invert_of (matrix_of m.now))) }
     ensures rounded { rounded.new ≡ first_or rounded.old (flags_of_inversion (invert_of (matrix_of m.now))) }
@@ -183,8 +162,7 @@ pub extern "C" fn nz_transform_invert(m: &[f32; 6], out: &mut [f32; 6], rounded:
 }
 
 // Maps one point, x and y, where it stands.
-#[unsafe(no_mangle)]
-pub extern "C" fn nz_transform_map_point(m: &[f32; 6], point: &mut [f32; 2])
+pub fn nz_transform_map_point(m: &[f32; 6], point: &mut [f32; 2])
     ensures { point.new ≡ flat (map_point (matrix_of m.now) (point_at point.old 0) ∷ []) }
 {
     let p = matrix(m).map_point(Point {
@@ -195,8 +173,7 @@ pub extern "C" fn nz_transform_map_point(m: &[f32; 6], point: &mut [f32; 2])
 }
 
 // Maps each point of a buffer that holds x, y, x, y.
-#[unsafe(no_mangle)]
-pub extern "C" fn nz_transform_map_numbers(m: &[f32; 6], numbers: &mut [f32]) -> u32
+pub fn nz_transform_map_numbers(m: &[f32; 6], numbers: &mut [f32]) -> u32
     ensures value { result ≡ mapping_number numbers.old }
     ensures buffer { numbers.new ≡ mapped_numbers (matrix_of m.now) numbers.old }
 {

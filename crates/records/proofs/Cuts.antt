@@ -5,14 +5,14 @@ use mathlib.Core.List.{List, [], ◌∷◌, ◌++◌, append_assoc, append-nil}
 use Prim.Native.Nat.{ℕ, ◌+◌, ◌-◌, ◌≤◌, ◌<◌}
 use native.Mathlib.Omega.{arith}
 use lib.Dec.{leb, eqb}
-use lib.ListN.{length, take, drop, length-append}
+use lib.ListN.{length, take, length-append}
 use lib.Seq.{take-append-add, take-append-le, take-nil, drop-append_seam}
-use borrow.Author.Tests.{leb-true, leb-false, le-leb, lt-leb}
+use borrow.Author.Tests.{leb-true, leb-false}
 use Rattle.records.specs.declared.Record.{Record}
-use Rattle.records.specs.declared.Found.TheVariants.{Whole, End, Short}
+use Rattle.records.specs.declared.Found.TheVariants.{End, Short}
 use Rattle.records.specs.Cut.{whole_from}
 use Rattle.records.specs.Laws.{moved, behind, exactly, CutAnywhere, CutInARecord, Uncut}
-use Rattle.records.specs.Reading.{read_of, Reading, none, more, read_from, read_all}
+use Rattle.records.specs.Reading.{Reading, none, more, read_all}
 use Rattle.records.specs.Record.{bytes_of, journal_of, Fits, AllFit}
 use Rattle.records.proofs.First.{read_first, cut_first}
 use Rattle.records.proofs.Journals.{read_more, read_stop}

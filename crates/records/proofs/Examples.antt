@@ -1,14 +1,14 @@
 -- The worked examples of docs/RULES.md, "Figures", that are of a journal. Assumes nothing.
 use mathlib.Core.Path.{◌≡◌, refl}
-use mathlib.Core.List.{List, [], ◌∷◌, ◌++◌}
+use mathlib.Core.List.{[], ◌∷◌}
 use lib.IntN.{negsuc}
-use Rattle.records.specs.declared.Found.TheVariants.{Whole, End, Short, Refused}
+use Rattle.records.specs.declared.Found.TheVariants.{Whole, Short, Refused}
 use Rattle.records.specs.declared.Record.{Record}
 use Rattle.records.specs.declared.Record.TheVariants.{Correction}
 use Rattle.records.specs.declared.Refusal.TheVariants.{BadLength, UnknownKind}
 use Rattle.records.specs.Numbers.{two, four, fours, half, word, words_at, signed_of}
 use Rattle.records.specs.Reading.{read_of}
-use Rattle.records.specs.Record.{kind_of, words_of, count_of, record_of, length_of, bytes_for, bytes_of}
+use Rattle.records.specs.Record.{words_of, count_of, record_of, length_of, bytes_for, bytes_of}
 
 -- a correction of -250 milliseconds
 back_by_250 : Record

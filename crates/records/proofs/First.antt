@@ -2,7 +2,7 @@
 use mathlib.Core.Path.{◌≡◌, refl, sym, ap, ◌∙◌}
 use mathlib.Core.Bool.{Bool, true, false, cond}
 use mathlib.Core.List.{List, [], ◌∷◌, ◌++◌}
-use Prim.Native.Nat.{ℕ, suc, ◌+◌, ◌-◌, ◌*◌, ◌≤◌, ◌<◌}
+use Prim.Native.Nat.{ℕ, ◌+◌, ◌*◌, ◌≤◌, ◌<◌}
 use native.Mathlib.Omega.{arith}
 use lib.Dec.{eqb, ltb}
 use lib.ListN.{length, take, drop, length-append}
@@ -11,12 +11,12 @@ use borrow.Author.Tests.{eqb-true, eqb-false, ltb-true, ltb-false, ne_eqb}
 use Rattle.records.specs.declared.Record.{Record}
 use Rattle.records.specs.declared.Record.TheVariants.{Conic, Transform, Correction}
 use Rattle.records.specs.declared.Found.TheVariants.{Whole, End, Short}
-use Rattle.records.specs.Numbers.{two, four, fours, half, word, words_at, signed_of, AllBelow}
+use Rattle.records.specs.Numbers.{two, four, fours, half, word, words_at, AllBelow}
 use Rattle.records.specs.Reading.{read_of}
 use Rattle.records.specs.Record.{kind_of, words_of, count_of, record_of, length_of, bytes_for, bytes_of, Fits, words_over}
 use Rattle.records.specs.Writing.{stored_answer, stored_over, write_answer, written_over, bytes_with, words_answer, words_written}
 use Rattle.records.proofs.Judged.{at_end, no_length, no_kind, cut_off, whole}
-use Rattle.records.proofs.Patterns.{word-four, half_two, words_drop, word-take, half-take, length_is}
+use Rattle.records.proofs.Patterns.{word-four, words_drop, word-take, half-take, length_is}
 use Rattle.records.proofs.Signed.{pattern_below, signed_pattern}
 use Rattle.records.proofs.Stores.{length-bytes_for}
 

@@ -1,13 +1,13 @@
 -- Numbers to bytes and back: what is read where a number was stored is the number, and what is stored where it was read is
 -- the bytes. Assumes nothing.
-use mathlib.Core.Path.{◌≡◌, refl, sym, ap, ◌∙◌}
-use mathlib.Core.List.{List, [], ◌∷◌, ◌++◌, append_assoc}
+use mathlib.Core.Path.{◌≡◌, refl, ap, ◌∙◌}
+use mathlib.Core.List.{List, [], ◌∷◌, ◌++◌}
 use Prim.Native.Nat.{ℕ, zero, suc, ◌+◌, ◌*◌, ◌/◌, ◌%◌, ◌≤◌, ◌<◌}
 use native.Mathlib.Omega.{arith}
 use native.Mathlib.Nat.{div-div-eq-div-mul, mod-eq_of_lt}
 use lib.ListN.{length, get_or, take, drop, length-append}
 use lib.Seq.{get_or-take, get_or-drop}
-use Rattle.records.specs.Numbers.{two, four, fours, half, word, words_at, Bytes, AllBelow}
+use Rattle.records.specs.Numbers.{two, four, fours, half, word, words_at, AllBelow}
 use Rattle.records.specs.Record.{length_of}
 
 pub all_below : (ws : List ℕ) → ((i : ℕ) → get_or ws i 0 < 4294967296) → AllBelow ws

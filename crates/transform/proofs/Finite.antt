@@ -5,7 +5,6 @@ use lib.Ieee.{Float, nan, inf, fin, ne, neg, mul, div, of_bits, of_fields}
 use lib.Ieee.Scale.{finite}
 use Rattle.float_laws.specs.Formula.{zero32, one32}
 use Rattle.float_laws.specs.Narrow.{some_lost}
-use Rattle.transform.specs.declared.Computed.{Computed}
 use Rattle.transform.specs.declared.Transform.{Transform}
 use Rattle.transform.specs.declared.invert.Inversion.{Inversion}
 use Rattle.transform.specs.declared.invert.Inversion.TheVariants.{Inverted, NearlySingular, NotFinite}

@@ -1,0 +1,39 @@
+-- `decimal::is_decimal` meets its contract: the three parts are those that the definition names. Assumes nothing.
+use Rattle.std.proofs.Common.{◌≡◌, ℕ, ◌-◌, List, take, drop, arith}
+use Rattle.bridge_lines.specs.Kinds.{is_of}
+use Rattle.bridge_lines.specs.Words.{is_point, before}
+use Rattle.bridge_lines.specs.declared.scan.Kind.TheVariants.{Point}
+use Rattle.bridge_lines.proofs.Bytes.{part}
+use Rattle.bridge_lines.proofs.decimal.is_decimal.Goals as goal
+
+pub first-end-requires : goal.first-end-requires
+first-end-requires c = omega arith
+
+pub is_whole-requires : goal.is_whole-requires
+is_whole-requires c = tt
+
+pub slice_bounds-is_whole-count : goal.slice_bounds-is_whole-count
+slice_bounds-is_whole-count c = omega arith
+
+pub is_whole-requires-2 : goal.is_whole-requires-2
+is_whole-requires-2 c = tt
+
+pub past_point-requires : goal.past_point-requires
+past_point-requires c = tt
+
+pub is_whole-requires-3 : goal.is_whole-requires-3
+is_whole-requires-3 c = tt
+
+pub returns : goal.returns
+unfolding is_of
+returns c =
+    let w : List ℕ = c.args.w.now in
+    let e : ℕ = c.first-end.result in
+    let p : take (e - 0) (drop 0 w) ≡ before is_point w = part (is_of Point) w 0 e c.first-end.ensures.1 in
+    rw (
+      c.is_whole.ensures,
+      c.is_whole-2.ensures,
+      c.is_whole-3.ensures,
+      c.past_point.ensures,
+      p,
+    )

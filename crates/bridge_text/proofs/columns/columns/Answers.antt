@@ -1,0 +1,6 @@
+use Rattle.bridge_text.specs.Text.{columns_of}
+use Rattle.bridge_text.proofs.columns.columns.Goals as goal
+
+pub returns : goal.returns
+unfolding columns_of
+returns c = cc

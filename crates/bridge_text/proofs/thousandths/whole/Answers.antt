@@ -1,0 +1,15 @@
+use mathlib.Core.Path.{◌∙◌}
+use native.Mathlib.Omega.{arith}
+use Prim.Native.Nat.{◌*◌, ◌^◌, ◌<◌}
+use native.Mathlib.Nat.{mod-eq_of_lt}
+use Rattle.bridge_text.proofs.Sizes.{shifted}
+use Rattle.bridge_text.proofs.thousandths.whole.Goals as goal
+
+pub overflow_mul-q : goal.overflow_mul-q
+overflow_mul-q c = omega (arith, shifted c.args.q c.args.j c.requires.significand c.requires.shift)
+
+pub returns : goal.returns
+returns c =
+    let a = c in
+    let p : a.args.q * 2 ^ a.args.j < 2 ^ 64 = omega (arith, shifted a.args.q a.args.j a.requires.significand a.requires.shift) in
+    c.held.ensures ∙ rw (mod-eq_of_lt p)

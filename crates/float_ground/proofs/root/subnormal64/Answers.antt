@@ -1,0 +1,54 @@
+-- `float_ground::root::subnormal64` meets its contract: the leading zeros give the shift. Assumes nothing.
+use mathlib.Core.Path.{◌≡◌, refl, ap, ◌∙◌}
+use Prim.Native.Nat.{ℕ, ◌+◌, ◌-◌, ◌*◌, ◌%◌, ◌^◌, ◌<◌}
+use native.Mathlib.Nat.{lt_of_lt_of_le, mod-eq_of_lt}
+use native.Mathlib.Omega.{arith}
+use lib.Dec.{lit≤}
+use lib.Count.{count_leading_zeros}
+use lib.Ieee.{binary64, low, of_bits}
+use Rattle.float_ground.specs.Parts.{wide, zeros}
+use Rattle.float_ground.proofs.Apart.{Shift, shift}
+use Rattle.float_ground.proofs.Shifted.{leading, value_by, subnormal_value}
+use Rattle.float_ground.proofs.root.subnormal64.Goals as goal
+use Rattle.float_ground.proofs.root.subnormal64.Goals.{Start}
+
+module _ (c : Start) where
+  abbrev b : ℕ
+  b = c.args.b
+
+  abbrev z : ℕ
+  z = count_leading_zeros 64 b - 10
+
+  small : b < 2 ^ 53
+  small = lt_of_lt_of_le c.requires.high (lit≤ tt)
+
+  of-b : Shift 64 10 53 b z
+  of-b = let is : z ≡ count_leading_zeros 64 b - 10 = omega arith in shift 64 10 53 b z refl c.requires.low small is
+
+  t-is : b * 2 ^ z % 2 ^ 64 ≡ b * 2 ^ z
+  t-is = mod-eq_of_lt (lt_of_lt_of_le of-b.under (lit≤ tt))
+
+pub overflow_sub-z : goal.overflow_sub-z
+overflow_sub-z c = omega (arith, (of-b c).some)
+
+pub overflow_cast-z : goal.overflow_cast-z
+overflow_cast-z c = record { fits = omega (arith, (of-b c).few) }
+
+pub overflow_sub-z-2 : goal.overflow_sub-z-2
+overflow_sub-z-2 c = omega (arith, (of-b c).few)
+
+pub overflow_shl-b : goal.overflow_shl-b
+overflow_shl-b c = omega (arith, (of-b c).few)
+
+pub root64-requires : goal.root64-requires
+root64-requires c = record { exponent = omega arith; even = ap (λ (y : ℕ). y % 2) (t-is c) ∙ (of-b c).clear 53 (lit≤ tt) (small c) }
+
+pub returns : goal.returns
+returns c =
+    let a = c in
+    let t = b (goal.at.returns c).Start * 2 ^ z (goal.at.returns c).Start % 2 ^ 64 in
+    let digits : t % 2 ^ wide binary64 + 2 ^ wide binary64 ≡ b (goal.at.returns c).Start * 2 ^ z (goal.at.returns c).Start =
+    ap (λ (y : ℕ). y % 2 ^ 53 + 2 ^ 53) (t-is (goal.at.returns c).Start) ∙ leading (b (goal.at.returns c).Start * 2 ^ z (goal.at.returns c).Start) (2 ^ 53) (of-b (goal.at.returns c).Start).at_least (of-b (goal.at.returns c).Start).under in
+    let sum : 0 + (low binary64 + low binary64 + 1 - zeros binary64) ≡ z (goal.at.returns c).Start + (1023 - z (goal.at.returns c).Start) + low binary64 = omega (arith, (of-b (goal.at.returns c).Start).few) in
+    c.root64.ensures (of_bits binary64 (b (goal.at.returns c).Start)) (value_by binary64 (of_bits binary64 (b (goal.at.returns c).Start)) (b (goal.at.returns c).Start) 0 (z (goal.at.returns c).Start) (1023 - z (goal.at.returns c).Start) t
+    (subnormal_value binary64 (b (goal.at.returns c).Start) a.requires.high) digits sum)

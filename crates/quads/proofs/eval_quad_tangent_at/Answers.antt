@@ -1,0 +1,17 @@
+-- `quads::eval_quad_tangent_at` meets its contract. Assumes nothing.
+use mathlib.Core.Path.{refl}
+use borrow.Author.Tests.{lt-ltb, le-ltb}
+use Rattle.quads.proofs.eval_quad_tangent_at.Goals as goal
+
+pub returns-then-outside_unit : goal.returns-then-outside_unit
+returns-then-outside_unit c = rw (← c.outside_unit.ensures, c.if-outside_unit.true) (record { value = refl; number = refl; values = refl })
+
+pub returns-then-src-lt6 : goal.returns-then-src-lt6
+returns-then-src-lt6 c = rw (← c.outside_unit.ensures, c.if-outside_unit.false, lt-ltb _ _ c.if-src-lt6.true) (record { value = refl; number = refl; values = refl })
+
+pub returns : goal.returns
+returns c =
+    let q = c in
+    let l = c in
+    rw (← l.outside_unit.ensures, l.if-outside_unit.false, le-ltb _ _ q.if-src-lt6.false, c.tangent_at.ensures, q.quad_of.ensures)
+    (record { value = refl; number = refl; values = refl })
