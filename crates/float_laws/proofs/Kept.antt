@@ -1,5 +1,5 @@
 -- Narrowing keeps a value of binary64 exactly where it leaves it as it is, a zero's sign too. Assumes nothing.
-use mathlib.Core.Path.{◌≡◌, refl, sym, ap, ◌∙◌, subst}
+use mathlib.Core.Path.{◌≡◌, refl, sym, ◌∙◌, subst}
 use mathlib.Core.Bool.{Bool, true, false, not, ◌||◌, beq}
 use Prim.Native.Nat.{ℕ, zero, suc, ◌*◌, ◌<◌}
 use native.Mathlib.Nat.{zero-lt-suc, mul-pos, lt_irrefl}
@@ -7,7 +7,7 @@ use lib.Dec.{T, eqb, eqb→eq}
 use lib.IntN.{ℤ}
 use lib.Ieee.{Float, nan, inf, fin, binary32, binary64, up, down, fits, eq, ne, is_nan}
 use lib.Ieee.Fits.{up_pos, down_pos, and_l, and_r, fits_widens}
-use Rattle.float_laws.specs.Narrow.{round_to, narrow_of, kept}
+use Rattle.float_laws.specs.Narrow.{narrow_of, kept}
 use Rattle.float_laws.proofs.Narrowed.{round_to-fits, round-held}
 use Rattle.float_laws.proofs.Order.{or_case}
 use Rattle.float_laws.proofs.Squares.{nan_test}

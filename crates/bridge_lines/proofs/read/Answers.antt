@@ -17,9 +17,6 @@ first-end-requires c = omega arith
 pub slice_bounds-line-count : goal.slice_bounds-line-count
 slice_bounds-line-count c = omega arith
 
-pub line-requires : goal.line-requires
-line-requires c = tt
-
 pub returns : goal.returns
 unfolding is_of read_of
 returns c =

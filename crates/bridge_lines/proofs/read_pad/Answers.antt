@@ -19,18 +19,12 @@ first-end-requires c = omega arith
 pub slice_bounds-text-count : goal.slice_bounds-text-count
 slice_bounds-text-count c = omega arith
 
-pub too_long-requires : goal.too_long-requires
-too_long-requires c = tt
-
 pub returns-then-text-gt256 : goal.returns-then-text-gt256
 unfolding pad_of
 returns-then-text-gt256 c =
     let e = text (goal.at.returns-then-text-gt256 c).After-first-end in
     rw (lt-ltb 256 (length (before is_hash c.args.line.now)) (omega (arith, ap length e, c.if-text-gt256.true)))
     (c.too_long.ensures ∙ ap (λ (l : List ℕ). too_long_of (words_of l)) e)
-
-pub line-requires : goal.line-requires
-line-requires c = tt
 
 pub returns : goal.returns
 unfolding pad_of

@@ -20,7 +20,5 @@ returns-then-src-lt8 c = rw (← c.outside_open_unit.ensures, c.if-outside_open_
 
 pub returns : goal.returns
 returns c =
-    let s = c in
-    let q = c in
-    rw (← q.outside_open_unit.ensures, q.if-outside_open_unit.false, le-ltb _ _ q.if-src-lt8.false)
-    (rw (s.chop_at2-new.ensures, q.cubic_of.ensures, chop-length) at s.store.ensures)
+    rw (← c.outside_open_unit.ensures, c.if-outside_open_unit.false, le-ltb _ _ c.if-src-lt8.false)
+    (rw (c.chop_at2-new.ensures, c.cubic_of.ensures, chop-length) at c.store.ensures)

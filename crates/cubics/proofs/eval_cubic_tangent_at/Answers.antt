@@ -11,7 +11,5 @@ returns-then-src-lt8 c = rw (← c.outside_unit.ensures, c.if-outside_unit.false
 
 pub returns : goal.returns
 returns c =
-    let q = c in
-    let l = c in
-    rw (← l.outside_unit.ensures, l.if-outside_unit.false, le-ltb _ _ q.if-src-lt8.false, c.tangent_at.ensures, q.cubic_of.ensures)
+    rw (← c.outside_unit.ensures, c.if-outside_unit.false, le-ltb _ _ c.if-src-lt8.false, c.tangent_at.ensures, c.cubic_of.ensures)
     (record { value = refl; number = refl; values = refl })

@@ -10,5 +10,4 @@ returns-in-Passed c = dated_at c.date.ensures
 
 pub returns-in-Refused : goal.returns-in-Refused
 returns-in-Refused c =
-    let s = c in
-    table_refused s.args.table.now s.args.r c.in-Refused.why (sym c.test.ensures ∙ c.in-Refused.is)
+    table_refused c.args.table.now c.args.r c.in-Refused.why (sym c.test.ensures ∙ c.in-Refused.is)

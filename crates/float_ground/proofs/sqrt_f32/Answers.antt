@@ -9,14 +9,6 @@ use Rattle.float_ground.proofs.sqrt_f32.Goals.{Start}
 held : (c : Start) → T (fits binary32 c.args.x)
 held c = subst T (sym c.well_formed.0.1) tt
 
-pub float_from_bits-t-2 : goal.float_from_bits-t-2
-unfolding nan_bits
-float_from_bits-t-2 c = tt
-
-pub float_from_bits-t-4 : goal.float_from_bits-t-4
-unfolding nan_bits
-float_from_bits-t-4 c = tt
-
 pub float_to_bits-x : goal.float_to_bits-x
 float_to_bits-x c = normal_number binary32 c.args.x c.if-x.true
 
@@ -30,10 +22,6 @@ returns-then-x c =
     let whole = of_pattern binary32 c.args.x c.normal32.result (held (goal.at.returns-then-x c).Start) c.normal32.ensures in
     record { equal = whole.0; nearest = whole.1 }
 
-pub float_from_bits-t-2-2 : goal.float_from_bits-t-2-2
-unfolding nan_bits
-float_from_bits-t-2-2 c = tt
-
 pub float_to_bits-x-then-x-2 : goal.float_to_bits-x-then-x-2
 float_to_bits-x-then-x-2 c = subnormal_number binary32 c.args.x c.if-x-2.true
 
@@ -44,18 +32,27 @@ subnormal32-requires c =
 
 pub returns-then-x-2 : goal.returns-then-x-2
 returns-then-x-2 c =
-    let a = c in
-    let whole = of_pattern binary32 a.args.x c.subnormal32.result (held (goal.at.returns-then-x-2 c).Start) c.subnormal32.ensures in
+    let whole = of_pattern binary32 c.args.x c.subnormal32.result (held (goal.at.returns-then-x-2 c).Start) c.subnormal32.ensures in
     record { equal = whole.0; nearest = whole.1 }
 
 pub returns-then-x-3 : goal.returns-then-x-3
 returns-then-x-3 c =
-    let a = c in
-    let whole = no_root binary32 a.args.x (held (goal.at.returns-then-x-3 c).Start) c.if-x-3.true in
+    let whole = no_root binary32 c.args.x (held (goal.at.returns-then-x-3 c).Start) c.if-x-3.true in
     record { equal = whole.0; nearest = whole.1 }
 
 pub returns : goal.returns
 returns c =
-    let a = c in
-    let whole = itself binary32 a.args.x (held (goal.at.returns c).Start) c.if-x.false c.if-x-2.false c.if-x-3.false in
+    let whole = itself binary32 c.args.x (held (goal.at.returns c).Start) c.if-x.false c.if-x-2.false c.if-x-3.false in
     record { equal = whole.0; nearest = whole.1 }
+
+pub float_from_bits-t-2 : goal.float_from_bits-t-2
+unfolding nan_bits
+float_from_bits-t-2 c = tt
+
+pub float_from_bits-t-4 : goal.float_from_bits-t-4
+unfolding nan_bits
+float_from_bits-t-4 c = tt
+
+pub float_from_bits-t-2-2 : goal.float_from_bits-t-2-2
+unfolding nan_bits
+float_from_bits-t-2-2 c = tt

@@ -21,18 +21,9 @@ passed (fin s m e) nan b h = true≢false (sym h)
 held : (c : Start) → T (fits binary64 c.args.x)
 held c = fits_widens c.args.x (subst T (sym c.well_formed.0.1) tt)
 
-pub float_from_bits-t-2 : goal.float_from_bits-t-2
-unfolding nan_bits
-float_from_bits-t-2 c = tt
-
-pub float_from_bits-t-4 : goal.float_from_bits-t-4
-unfolding nan_bits
-float_from_bits-t-4 c = tt
-
 pub float_to_float-result : goal.float_to_float-result
 float_to_float-result c =
-    let a = c in
-    let x = a.args.x in
+    let x = c.args.x in
     and_i (fits binary64 x) (not (is_nan x)) (held (goal.at.float_to_float-result c).Start) (passed _ x _ c.if-x.true)
 
 pub returns-then-x : goal.returns-then-x
@@ -43,6 +34,13 @@ round_to-requires c = tidy_apart binary32 c.args.x c.take_apart32.result c.take_
 
 pub returns : goal.returns
 returns c =
-    let a = c in
-    let x = a.args.x in
-    c.float64.ensures ∙ c.round_to.ensures.is binary32 x a.take_apart32.ensures ∙ round-held binary64 x (held (goal.at.returns c).Start)
+    let x = c.args.x in
+    c.float64.ensures ∙ c.round_to.ensures.is binary32 x c.take_apart32.ensures ∙ round-held binary64 x (held (goal.at.returns c).Start)
+
+pub float_from_bits-t-2 : goal.float_from_bits-t-2
+unfolding nan_bits
+float_from_bits-t-2 c = tt
+
+pub float_from_bits-t-4 : goal.float_from_bits-t-4
+unfolding nan_bits
+float_from_bits-t-4 c = tt

@@ -6,15 +6,12 @@ use Rattle.quad_roots.proofs.root.Goals as goal
 
 pub returns-in-Exact : goal.returns-in-Exact
 returns-in-Exact c =
-    let n = c in
-    rw (← n.sqrt_f64.ensures.equal) (sym (ap value_of c.in-Exact.is) ∙ carried _ n.narrow.ensures)
+    rw (← c.sqrt_f64.ensures.equal) (sym (ap value_of c.in-Exact.is) ∙ carried _ c.narrow.ensures)
 
 pub returns-in-Rounded : goal.returns-in-Rounded
 returns-in-Rounded c =
-    let n = c in
-    rw (← n.sqrt_f64.ensures.equal) (sym (ap value_of c.in-Rounded.is) ∙ carried _ n.narrow.ensures)
+    rw (← c.sqrt_f64.ensures.equal) (sym (ap value_of c.in-Rounded.is) ∙ carried _ c.narrow.ensures)
 
 pub returns-in-ToInfinity : goal.returns-in-ToInfinity
 returns-in-ToInfinity c =
-    let n = c in
-    rw (← n.sqrt_f64.ensures.equal) (sym (ap value_of c.in-ToInfinity.is) ∙ carried _ n.narrow.ensures)
+    rw (← c.sqrt_f64.ensures.equal) (sym (ap value_of c.in-ToInfinity.is) ∙ carried _ c.narrow.ensures)

@@ -10,7 +10,6 @@ returns-then-src-lt6 c = rw (lt-ltb _ _ c.if-src-lt6.true) (record { value = ref
 
 pub returns : goal.returns
 returns c =
-    let q = c in
     let e = c.max_curvature.ensures in
-    rw (le-ltb _ _ q.if-src-lt6.false, ← q.quad_of.ensures)
+    rw (le-ltb _ _ c.if-src-lt6.false, ← c.quad_of.ensures)
     (record { value = e; number = ap number_of_curvature e ∙ read_off number_of_curvature _; values = ap values_of_curvature e ∙ read_off values_of_curvature _ })

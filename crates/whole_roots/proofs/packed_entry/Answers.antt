@@ -9,8 +9,7 @@ entry-requires c =
 
 pub returns-then-has_entry : goal.returns-then-has_entry
 returns-then-has_entry c =
-    let h = c in
-    entry_is h.args.k c.entry.result (sym h.has_entry.ensures ∙ c.if-has_entry.true) c.entry.ensures
+    entry_is c.args.k c.entry.result (sym c.has_entry.ensures ∙ c.if-has_entry.true) c.entry.ensures
 
 pub returns : goal.returns
 returns c = no_entry c.args.k (sym c.has_entry.ensures ∙ c.if-has_entry.false)

@@ -1,5 +1,4 @@
 use mathlib.Core.Path.{sym, ◌∙◌, refl}
-use Prim.Native.Nat.{◌-◌}
 use native.Mathlib.Omega.{arith}
 use Rattle.whole_roots.proofs.read_alike.Goals as goal
 
@@ -8,8 +7,7 @@ overflow_sub-result c = omega arith
 
 pub returns-then-table_entry-packed_entry : goal.returns-then-table_entry-packed_entry
 returns-then-table_entry-packed_entry c =
-    let p = c in
-    absurd (c.if-table_entry-packed_entry.true (p.table_entry.ensures ∙ sym p.packed_entry.ensures))
+    absurd (c.if-table_entry-packed_entry.true (c.table_entry.ensures ∙ sym c.packed_entry.ensures))
 
 pub overflow_add-k : goal.overflow_add-k
 overflow_add-k c = omega arith

@@ -9,20 +9,8 @@ use Rattle.bridge_lines.proofs.decimal.is_decimal.Goals as goal
 pub first-end-requires : goal.first-end-requires
 first-end-requires c = omega arith
 
-pub is_whole-requires : goal.is_whole-requires
-is_whole-requires c = tt
-
 pub slice_bounds-is_whole-count : goal.slice_bounds-is_whole-count
 slice_bounds-is_whole-count c = omega arith
-
-pub is_whole-requires-2 : goal.is_whole-requires-2
-is_whole-requires-2 c = tt
-
-pub past_point-requires : goal.past_point-requires
-past_point-requires c = tt
-
-pub is_whole-requires-3 : goal.is_whole-requires-3
-is_whole-requires-3 c = tt
 
 pub returns : goal.returns
 unfolding is_of

@@ -2,9 +2,6 @@
 use Rattle.bridge_lines.specs.Pad.{bridge_or}
 use Rattle.bridge_lines.proofs.pad.bridge.Goals as goal
 
-pub line-requires : goal.line-requires
-line-requires c = tt
-
 pub returns-in-Good : goal.returns-in-Good
 unfolding bridge_or
 returns-in-Good c = rw (← c.line.ensures, c.in-Good.is)

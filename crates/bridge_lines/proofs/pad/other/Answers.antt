@@ -11,9 +11,6 @@ long ws h = let e = ap length (goes ws 7 h) in omega (arith, e, length-drop 7 ws
 short : (l : List ℕ) → length (get_or (words_of l) 7 []) ≡ 0 → length (words_of l) ≤ 7
 short l h = let e = ap length (ends l 7 h) in omega (arith, e, length-drop 7 (words_of l))
 
-pub word-requires : goal.word-requires
-word-requires c = tt
-
 pub returns-then-word-gt0 : goal.returns-then-word-gt0
 unfolding other_of
 returns-then-word-gt0 c =

@@ -10,9 +10,6 @@ overflow_sub-last c = some c.args.w.now c.requires
 pub slice_bounds-size-count : goal.slice_bounds-size-count
 slice_bounds-size-count c = omega arith
 
-pub size-requires : goal.size-requires
-size-requires c = tt
-
 pub overflow_cast-result : goal.overflow_cast-result
 overflow_cast-result c = omega arith
 

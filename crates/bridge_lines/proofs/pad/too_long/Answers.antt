@@ -5,12 +5,6 @@ use Rattle.bridge_lines.specs.Words.{words_of}
 use Rattle.bridge_lines.proofs.pad.too_long.Goals as goal
 use Rattle.bridge_lines.proofs.pad.too_long.Goals.{After-is_word}
 
-pub word-requires : goal.word-requires
-word-requires c = tt
-
-pub is_word-requires : goal.is_word-requires
-is_word-requires c = tt
-
 first : (c : After-is_word) (t : Bool) → c.is_word.result ≡ t →
     same (get_or (words_of c.args.text.now) 0 []) stroke_word ≡ t
 first c t e = rw (← c.word.ensures) (sym c.is_word.ensures ∙ e)

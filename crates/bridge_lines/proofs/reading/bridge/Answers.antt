@@ -25,17 +25,10 @@ value-requires-6 c = c.requires 5 (lit< tt)
 pub value-requires-7 : goal.value-requires-7
 value-requires-7 c = c.requires 6 (lit< tt)
 
-pub word-requires : goal.word-requires
-word-requires c = tt
-
-pub size-requires : goal.size-requires
-size-requires c = tt
-
 pub returns : goal.returns
 returns c =
-    let a = c in
     let w : List ℕ = c.word.result.now in
-    let r : size_of w < 1000000000 = (ranged 8 w (rw c.word.ensures (a.requires 7 (lit< tt)))).0 in
+    let r : size_of w < 1000000000 = (ranged 8 w (rw c.word.ensures (c.requires 7 (lit< tt)))).0 in
     let e : c.size.result ≡ size_of w = omega arith in
     rw (
       c.value.ensures,

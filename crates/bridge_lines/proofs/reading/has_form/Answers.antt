@@ -2,29 +2,14 @@
 use Rattle.std.proofs.Common.{le-ltb, lt-ltb}
 use Rattle.bridge_lines.proofs.reading.has_form.Goals as goal
 
-pub without_sign-requires : goal.without_sign-requires
-without_sign-requires c = tt
-
-pub is_whole-requires : goal.is_whole-requires
-is_whole-requires c = tt
-
 pub returns-then-place-lt7 : goal.returns-then-place-lt7
 returns-then-place-lt7 c = rw (lt-ltb _ _ c.if-place-lt7.true, ← c.without_sign.ensures) c.is_whole.ensures
-
-pub without_sign-requires-then-place-lt8 : goal.without_sign-requires-then-place-lt8
-without_sign-requires-then-place-lt8 c = tt
-
-pub is_decimal-requires : goal.is_decimal-requires
-is_decimal-requires c = tt
 
 pub returns-then-place-lt8 : goal.returns-then-place-lt8
 returns-then-place-lt8 c =
     rw
     (le-ltb _ _ c.if-place-lt7.false, lt-ltb _ _ c.if-place-lt8.true, ← c.without_sign-then-place-lt8.ensures)
     c.is_decimal.ensures
-
-pub is_whole-requires-2 : goal.is_whole-requires-2
-is_whole-requires-2 c = tt
 
 pub returns : goal.returns
 returns c = rw (le-ltb _ _ c.if-place-lt7.false, le-ltb _ _ c.if-place-lt8.false) c.is_whole-2.ensures

@@ -9,9 +9,6 @@ loop-i-init c = (omega arith, refl)
 pub bounds-s-i : goal.bounds-s-i
 bounds-s-i c = omega arith
 
-pub is_of-requires : goal.is_of-requires
-is_of-requires c = tt
-
 pub returns-then-is_of : goal.returns-then-is_of
 returns-then-is_of c = (
   omega arith,

@@ -10,16 +10,13 @@ returns-then-x-gt164 c = sym (much c.args.q c.args.x (c.requires.normal (omega a
 
 pub returns-then-x-ge149 : goal.returns-then-x-ge149
 returns-then-x-ge149 c =
-    let a = c in
-    c.whole.ensures ∙ ap (λ (y : ℕ). min y 1000000000000) (sym (left a.args.q a.args.x c.if-x-ge149.true))
+    c.whole.ensures ∙ ap (λ (y : ℕ). min y 1000000000000) (sym (left c.args.q c.args.x c.if-x-ge149.true))
 
 pub returns-then-x-lt109 : goal.returns-then-x-lt109
 returns-then-x-lt109 c =
-    let a = c in
-    sym (little a.args.q a.args.x a.requires.significand c.if-x-lt109.true)
+    sym (little c.args.q c.args.x c.requires.significand c.if-x-lt109.true)
 
 pub returns : goal.returns
 returns c =
-    let a = c in
     c.held.ensures
-    ∙ ap (λ (y : ℕ). min y 1000000000000) (c.part.ensures ∙ sym (right a.args.q a.args.x (omega arith)))
+    ∙ ap (λ (y : ℕ). min y 1000000000000) (c.part.ensures ∙ sym (right c.args.q c.args.x (omega arith)))

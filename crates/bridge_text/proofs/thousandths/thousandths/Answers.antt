@@ -43,19 +43,16 @@ overflow_cast-b c = omega (arith, to_bits-lt binary32 c.args.v (held (goal.at.ov
 pub returns-then-field-eq255 : goal.returns-then-field-eq255
 unfolding thousandths_of
 returns-then-field-eq255 c =
-    let a = c in
-    let n : T (not (is_nan a.args.v)) = equals_itself a.args.v c.if-v.false in
-    let z : bits (goal.at.returns-then-field-eq255 c).Start % 8388608 ≡ 0 = (fields_in binary32 a.args.v (held (goal.at.returns-then-field-eq255 c).Start) n).1.1 c.if-field-eq255.true in
+    let n : T (not (is_nan c.args.v)) = equals_itself c.args.v c.if-v.false in
+    let z : bits (goal.at.returns-then-field-eq255 c).Start % 8388608 ≡ 0 = (fields_in binary32 c.args.v (held (goal.at.returns-then-field-eq255 c).Start) n).1.1 c.if-field-eq255.true in
     sym (sym (is (goal.at.returns-then-field-eq255 c).Start) ∙ ap thousandths_of (fields_infinite binary32 (negative (goal.at.returns-then-field-eq255 c).Start) (field (goal.at.returns-then-field-eq255 c).Start) (bits (goal.at.returns-then-field-eq255 c).Start % 8388608) c.if-field-eq255.true z))
 
 pub returns-then-field-eq0 : goal.returns-then-field-eq0
 returns-then-field-eq0 c =
-    let a = c in
     c.scaled.ensures ∙ sym (of_low (negative (goal.at.returns-then-field-eq0 c).Start) (field (goal.at.returns-then-field-eq0 c).Start) (bits (goal.at.returns-then-field-eq0 c).Start % 8388608) c.if-field-eq0.true) ∙ is (goal.at.returns-then-field-eq0 c).Start
 
 pub returns : goal.returns
 returns c =
-    let a = c in
     c.scaled-2.ensures
     ∙ sym (of_high (negative (goal.at.returns c).Start) (field (goal.at.returns c).Start) (bits (goal.at.returns c).Start % 8388608) c.if-field-eq0.false c.if-field-eq255.false)
     ∙ is (goal.at.returns c).Start

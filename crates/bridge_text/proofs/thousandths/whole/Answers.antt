@@ -10,6 +10,5 @@ overflow_mul-q c = omega (arith, shifted c.args.q c.args.j c.requires.significan
 
 pub returns : goal.returns
 returns c =
-    let a = c in
-    let p : a.args.q * 2 ^ a.args.j < 2 ^ 64 = omega (arith, shifted a.args.q a.args.j a.requires.significand a.requires.shift) in
+    let p : c.args.q * 2 ^ c.args.j < 2 ^ 64 = omega (arith, shifted c.args.q c.args.j c.requires.significand c.requires.shift) in
     c.held.ensures ∙ rw (mod-eq_of_lt p)

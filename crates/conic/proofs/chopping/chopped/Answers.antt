@@ -13,7 +13,6 @@ returns-then-is_whole c =
 pub returns : goal.returns
 unfolding lines_at
 returns c =
-    let was = c in
-    let lines = was.plain_lines-l in
+    let lines = c.plain_lines-l in
     rw (c.wide_middle-2.ensures, c.wide_middle.ensures, lines.ensures)
-    (lines_wide _ _ lines.result lines.ensures (sym was.is_whole.ensures ∙ was.if-is_whole.false))
+    (lines_wide _ _ lines.result lines.ensures (sym c.is_whole.ensures ∙ c.if-is_whole.false))

@@ -8,23 +8,17 @@ use Rattle.conic.proofs.chopping.wide_middle.Goals as goal
 pub returns-in-Exact : goal.returns-in-Exact
 unfolding wide_middle
 returns-in-Exact c =
-    let n = c in
-    let w = c in
-    rw (← n.widen-3.ensures, ← n.widen-2.ensures, ← w.widen.ensures, ← w.widen-w.ensures)
-    (sym (ap value_of c.in-Exact.is) ∙ carried _ n.narrow.ensures)
+    rw (← c.widen-3.ensures, ← c.widen-2.ensures, ← c.widen.ensures, ← c.widen-w.ensures)
+    (sym (ap value_of c.in-Exact.is) ∙ carried _ c.narrow.ensures)
 
 pub returns-in-Rounded : goal.returns-in-Rounded
 unfolding wide_middle
 returns-in-Rounded c =
-    let n = c in
-    let w = c in
-    rw (← n.widen-3.ensures, ← n.widen-2.ensures, ← w.widen.ensures, ← w.widen-w.ensures)
-    (sym (ap value_of c.in-Rounded.is) ∙ carried _ n.narrow.ensures)
+    rw (← c.widen-3.ensures, ← c.widen-2.ensures, ← c.widen.ensures, ← c.widen-w.ensures)
+    (sym (ap value_of c.in-Rounded.is) ∙ carried _ c.narrow.ensures)
 
 pub returns-in-ToInfinity : goal.returns-in-ToInfinity
 unfolding wide_middle
 returns-in-ToInfinity c =
-    let n = c in
-    let w = c in
-    rw (← n.widen-3.ensures, ← n.widen-2.ensures, ← w.widen.ensures, ← w.widen-w.ensures)
-    (sym (ap value_of c.in-ToInfinity.is) ∙ carried _ n.narrow.ensures)
+    rw (← c.widen-3.ensures, ← c.widen-2.ensures, ← c.widen.ensures, ← c.widen-w.ensures)
+    (sym (ap value_of c.in-ToInfinity.is) ∙ carried _ c.narrow.ensures)

@@ -8,10 +8,9 @@ overflow_sub-interior c = omega (arith, c.quads.ensures, pow_pos c.args.level)
 
 pub put-requires : goal.put-requires
 put-requires c =
-    let s = c in
     let put = c.put-next in
     let many = c.quads.ensures in
-    omega (arith, s.requires.room, many, pow_pos s.args.level, put.ensures.0, put.auto.out, c.pin.auto.out)
+    omega (arith, c.requires.room, many, pow_pos c.args.level, put.ensures.0, put.auto.out, c.pin.auto.out)
 
 pub returns : goal.returns
 returns c =

@@ -25,8 +25,7 @@ deeper n h k = omega arith
 
 pub put_quad-requires : goal.put_quad-requires
 put_quad-requires c =
-    let s = c in
-    omega (arith, s.requires.room, pow_zero s.args.level c.if-level-eq0.true)
+    omega (arith, c.requires.room, pow_zero c.args.level c.if-level-eq0.true)
 
 pub returns-then-level-eq0 : goal.returns-then-level-eq0
 returns-then-level-eq0 c =
@@ -39,17 +38,15 @@ ladder-requires c = c.requires.depth
 
 pub in_full-requires : goal.in_full-requires
 in_full-requires c =
-    let s = c in
     let made = c.ladder in
-    let there = climbed s.args.level s.args.c.weight made.new.rungs s.requires.depth made.ensures in
-    (s.requires.room, (omega (arith, c.if-level-eq1.true), (s.requires.depth, there)))
+    let there = climbed c.args.level c.args.c.weight made.new.rungs c.requires.depth made.ensures in
+    (c.requires.room, (omega (arith, c.if-level-eq1.true), (c.requires.depth, there)))
 
 pub subdivide-requires : goal.subdivide-requires
 subdivide-requires c =
-    let s = c in
     let made = c.ladder in
-    let there = climbed s.args.level s.args.c.weight made.new.rungs s.requires.depth made.ensures in
-    (s.requires.room, (deeper s.args.level c.if-level-eq0.false c.if-level-eq1.false, (s.requires.depth, rw c.put_together.ensures there)))
+    let there = climbed c.args.level c.args.c.weight made.new.rungs c.requires.depth made.ensures in
+    (c.requires.room, (deeper c.args.level c.if-level-eq0.false c.if-level-eq1.false, (c.requires.depth, rw c.put_together.ensures there)))
 
 pub returns : goal.returns
 returns c = rw (← c.put_together.ensures) c.subdivide.ensures

@@ -19,33 +19,30 @@ put_halves-next-requires c =
 
 pub put_halves-requires : goal.put_halves-requires
 put_halves-requires c =
-    let s = c in
     let first = c.put_halves-next in
-    omega (arith, s.requires.room, first.ensures.0, first.auto.out)
+    omega (arith, c.requires.room, first.ensures.0, first.auto.out)
 
 pub returns-then-whole-is_settled : goal.returns-then-whole-is_settled
 returns-then-whole-is_settled c =
-    let tested = c in
-    let s = c in
-    let a = s.args in
-    let second-settled = tested.is_settled-2 in
-    let first-settled = tested.is_settled in
-    let second-whole = tested.is_whole-2 in
-    let first-whole = tested.is_whole in
-    let second-lines = tested.plain_lines-k in
-    let first-lines = tested.plain_lines-l in
-    let d = tested.rung-d in
-    let first_Halves = c.halves in
+    let a = c.args in
+    let second-settled = c.is_settled-2 in
+    let first-settled = c.is_settled in
+    let second-whole = c.is_whole-2 in
+    let first-whole = c.is_whole in
+    let second-lines = c.plain_lines-k in
+    let first-lines = c.plain_lines-l in
+    let d = c.rung-d in
+    let first-halves = c.halves in
     let second-halves = c.halves-then-whole-is_settled in
     let first = c.put_halves-next in
     let second = c.put_halves in
-    let t = four first-whole.result second-whole.result first-settled.result second-settled.result tested.if-whole-is_settled.true in
-    let f = halved_plain 1 a.rungs.now a.h.first d.result first-lines.result first_Halves.result (omega arith) s.requires.first_half
-    d.ensures first-lines.ensures (sym first-whole.ensures ∙ t.0) (sym first-settled.ensures ∙ t.1.1.0) first_Halves.ensures in
-    let g = halved_plain 1 a.rungs.now a.h.second d.result second-lines.result second-halves.result (omega arith) s.requires.second_half
+    let t = four first-whole.result second-whole.result first-settled.result second-settled.result c.if-whole-is_settled.true in
+    let f = halved_plain 1 a.rungs.now a.h.first d.result first-lines.result first-halves.result (omega arith) c.requires.first_half
+    d.ensures first-lines.ensures (sym first-whole.ensures ∙ t.0) (sym first-settled.ensures ∙ t.1.1.0) first-halves.ensures in
+    let g = halved_plain 1 a.rungs.now a.h.second d.result second-lines.result second-halves.result (omega arith) c.requires.second_half
     d.ensures second-lines.ensures (sym second-whole.ensures ∙ t.1.0) (sym second-settled.ensures ∙ t.1.1.1) second-halves.ensures in
     stored_both chop_by_rule 1 a.h.first a.h.second a.out.now first.new.out second.new.out a.at first.result second.result
-    (stored_halves chop_by_rule 1 a.h.first first_Halves.result a.out.now first.new.out a.at first.result refl
+    (stored_halves chop_by_rule 1 a.h.first first-halves.result a.out.now first.new.out a.at first.result refl
     f.first f.second first.ensures)
     (stored_halves chop_by_rule 1 a.h.second second-halves.result first.new.out second.new.out first.result second.result refl
     g.first g.second second.ensures)

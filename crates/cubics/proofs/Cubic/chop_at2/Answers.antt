@@ -6,7 +6,5 @@ use Rattle.cubics.proofs.Cubic.chop_at2.Goals as goal
 pub returns : goal.returns
 unfolding cubic_chop flat
 returns c =
-    let abc = c in
-    let cd = c in
-    rw (c.interp-abcd.ensures, c.interp-bcd.ensures, abc.interp-abc.ensures, cd.interp-cd.ensures)
-    (rw (cd.interp-bc.ensures, cd.interp-ab.ensures))
+    rw (c.interp-abcd.ensures, c.interp-bcd.ensures, c.interp-abc.ensures, c.interp-cd.ensures)
+    (rw (c.interp-bc.ensures, c.interp-ab.ensures))

@@ -8,11 +8,9 @@ returns-then-is_outside c = let s = c in is_outside s.args.table.now s.args.r s.
 
 pub date_in-requires : goal.date_in-requires
 date_in-requires c =
-    let s = c in
-    let q = inside_of s.args.table.now s.args.r (sym c.is_outside.ensures ∙ c.if-is_outside.false) in
-    record { checked = s.requires; not_before = q.0; not_behind = q.1 }
+    let q = inside_of c.args.table.now c.args.r (sym c.is_outside.ensures ∙ c.if-is_outside.false) in
+    record { checked = c.requires; not_before = q.0; not_behind = q.1 }
 
 pub returns : goal.returns
 returns c =
-    let s = c in
-    is_date s.args.table.now s.args.r s.requires c.date_in.result (sym c.is_outside.ensures ∙ c.if-is_outside.false) c.date_in.ensures
+    is_date c.args.table.now c.args.r c.requires c.date_in.result (sym c.is_outside.ensures ∙ c.if-is_outside.false) c.date_in.ensures

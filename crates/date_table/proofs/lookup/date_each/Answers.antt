@@ -16,13 +16,12 @@ bounds-times-i c = omega arith
 pub date_in-requires : goal.date_in-requires
 date_in-requires c =
     let at = c.loop-i in
-    let s = c in
-    let l = s.args.table.now in
-    let ts = s.args.times.now in
+    let l = c.args.table.now in
+    let ts = c.args.times.now in
     let h : at.i < length ts = omega arith in
     let e : get_or at.times at.i 0 ≡ get_or ts at.i 0 = ap (λ (m : List ℕ). get_or m at.i 0) at.invariant.2 ∙ paste_at (date_in l) ts at.i h in
-    let q = inside_of l (get_or at.times at.i 0) (ap (outside l) e ∙ none-outside l ts at.i s.requires.inside h) in
-    record { checked = s.requires.checked; not_before = q.0; not_behind = q.1 }
+    let q = inside_of l (get_or at.times at.i 0) (ap (outside l) e ∙ none-outside l ts at.i c.requires.inside h) in
+    record { checked = c.requires.checked; not_before = q.0; not_behind = q.1 }
 
 pub offset_bounds-times-i-in-loop-i : goal.offset_bounds-times-i-in-loop-i
 offset_bounds-times-i-in-loop-i c = omega arith
@@ -39,9 +38,8 @@ loop-i-smaller c = omega arith
 pub loop-i-preserved : goal.loop-i-preserved
 loop-i-preserved c =
     let at = c.loop-i in
-    let s = c in
-    let l = s.args.table.now in
-    let ts = s.args.times.now in
+    let l = c.args.table.now in
+    let ts = c.args.times.now in
     let h : at.i < length ts = omega arith in
     let e : get_or at.times at.i 0 ≡ get_or ts at.i 0 = ap (λ (m : List ℕ). get_or m at.i 0) at.invariant.2 ∙ paste_at (date_in l) ts at.i h in (
       omega arith,
@@ -56,7 +54,6 @@ shape_of-times c = c.loop-i.invariant.1
 pub returns : goal.returns
 returns c =
     let at = c.loop-i in
-    let s = c in
-    let l = s.args.table.now in
-    let ts = s.args.times.now in
+    let l = c.args.table.now in
+    let ts = c.args.times.now in
     at.invariant.2 ∙ paste_all (date_in l) ts at.i (omega arith)

@@ -16,10 +16,9 @@ returns-then-n-at-lt4 c = (ended (goal.at.returns-then-n-at-lt4 c).After-last_no
 
 pub part_way-requires : goal.part_way-requires
 part_way-requires c =
-    let e = c in
     let h = ended (goal.at.part_way-requires c).After-last_not_above-at in
     let more = c.if-n-at-lt4.false in
-    record { not_before = e.last_not_above-at.ensures.not_above; not_behind = h.next_x more; rising = h.next_y more }
+    record { not_before = c.last_not_above-at.ensures.not_above; not_behind = h.next_x more; rising = h.next_y more }
 
 pub returns : goal.returns
 returns c = c.part_way.ensures ∙ (ended (goal.at.returns c).After-last_not_above-at).span c.if-n-at-lt4.false

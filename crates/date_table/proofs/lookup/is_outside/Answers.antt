@@ -19,5 +19,4 @@ bounds-table-table c = omega (arith, some (goal.at.bounds-table-table c).Start)
 
 pub returns : goal.returns
 returns c =
-    let s = c in
-    sym (outside_is s.args.table.now s.args.r (sound s.args.table.now s.requires).good)
+    sym (outside_is c.args.table.now c.args.r (sound c.args.table.now c.requires).good)

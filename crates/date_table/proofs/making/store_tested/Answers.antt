@@ -10,12 +10,11 @@ use Rattle.date_table.proofs.making.store_tested.Goals as goal
 use Rattle.date_table.proofs.making.store_tested.Goals.{After-test-found}
 
 -- the numbers at the front of the buffer are the rounded ones
-whole_is : (c : After-test-found) → let s = c in
-    take (s.args.n - 0) c.round_into.new.out ≡ rounded_of (points_of s.args.points.now)
+whole_is : (c : After-test-found) → let c = c in
+    take (c.args.n - 0) c.round_into.new.out ≡ rounded_of (points_of c.args.points.now)
 whole_is c =
-    let s = c in
     let into = c.round_into in
-    in_front (rounded_of (points_of s.args.points.now)) into.new.out s.args.rounded.now s.args.n into.ensures s.requires.numbers s.requires.rounded_room
+    in_front (rounded_of (points_of c.args.points.now)) into.new.out c.args.rounded.now c.args.n into.ensures c.requires.numbers c.requires.rounded_room
 
 pub returns-in-Passed : goal.returns-in-Passed
 returns-in-Passed c =
@@ -29,8 +28,6 @@ returns-in-Passed c =
 
 pub returns-in_default : goal.returns-in_default
 returns-in_default c =
-    let found = c in
-    let s = c in
     let told = c.in_default.is in
-    let t = rounded_of (points_of s.args.points.now) in
-    record { value = found.test-found.ensures ∙ ap check_of (whole_is (goal.at.returns-in_default c).After-test-found); table = ap (λ (k : Check). stored_by k s.args.table.now t) (sym told) }
+    let t = rounded_of (points_of c.args.points.now) in
+    record { value = c.test-found.ensures ∙ ap check_of (whole_is (goal.at.returns-in_default c).After-test-found); table = ap (λ (k : Check). stored_by k c.args.table.now t) (sym told) }

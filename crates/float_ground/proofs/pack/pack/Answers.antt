@@ -67,12 +67,10 @@ overflow_sub-first c = (in-spare (goal.at.overflow_sub-first c).After-layout-l).
 
 pub returns-then-t-gt55 : goal.returns-then-t-gt55
 returns-then-t-gt55 c =
-    let a = c in
     is-nothing (goal.at.returns-then-t-gt55 c).After-layout-l c.if-n-first.true c.if-t-gt55.true
 
 pub returns-then-n-first : goal.returns-then-n-first
 returns-then-n-first c =
-    let a = c in
     subst (Is (goal.at.returns-then-n-first c).After-layout-l) (sym c.round_shift.ensures) (is_subnormal (goal.at.returns-then-n-first c).After-layout-l c.if-n-first.true)
 
 pub returns-then-k-l : goal.returns-then-k-l
@@ -80,7 +78,6 @@ returns-then-k-l c = is-over (goal.at.returns-then-k-l c).After-layout-l c.if-n-
 
 pub overflow_mul-result : goal.overflow_mul-result
 overflow_mul-result c =
-    let a = c in
     omega (arith, small (goal.at.overflow_mul-result c).After-layout-l _ (is_normal (goal.at.overflow_mul-result c).After-layout-l c.if-n-first.false c.if-k-l.false))
 
 pub round_shift-requires-2 : goal.round_shift-requires-2

@@ -29,7 +29,6 @@ overflow_add-result-2 c = omega (arith, half (goal.at.overflow_add-result-2 c).S
 
 pub returns : goal.returns
 returns c =
-    let s = c in
-    let m = s.args.m in
+    let m = c.args.m in
     rw (half (goal.at.returns c).Start, c.up_at_tie.ensures) (subst
-    (λ (x : ℕ). (m + (2 ^ (s.args.t - 1) - 1) + m / 2 ^ x % 2) / 2 ^ x ≡ closest m (2 ^ x)) (next (goal.at.returns c).Start) (shift_closest m (s.args.t - 1)))
+    (λ (x : ℕ). (m + (2 ^ (c.args.t - 1) - 1) + m / 2 ^ x % 2) / 2 ^ x ≡ closest m (2 ^ x)) (next (goal.at.returns c).Start) (shift_closest m (c.args.t - 1)))

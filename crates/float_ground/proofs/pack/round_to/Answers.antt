@@ -20,16 +20,13 @@ returns-in-Nan c = rw c.in-Nan.is (rounded_nan (format_of c.args.w))
 
 pub returns-in-Infinite : goal.returns-in-Infinite
 returns-in-Infinite c =
-    let s = c in
-    by (goal.at.returns-in-Infinite c).Start _ _ c.infinite.result c.in-Infinite.is c.infinite.ensures (rounded_infinite (format_of s.args.w) c.in-Infinite.negative)
+    by (goal.at.returns-in-Infinite c).Start _ _ c.infinite.result c.in-Infinite.is c.infinite.ensures (rounded_infinite (format_of c.args.w) c.in-Infinite.negative)
 
 pub returns-in-Zero : goal.returns-in-Zero
 returns-in-Zero c =
-    let s = c in
-    by (goal.at.returns-in-Zero c).Start _ _ c.signed.result c.in-Zero.is c.signed.ensures (rounded_zero (format_of s.args.w) c.in-Zero.negative)
+    by (goal.at.returns-in-Zero c).Start _ _ c.signed.result c.in-Zero.is c.signed.ensures (rounded_zero (format_of c.args.w) c.in-Zero.negative)
 
 pub returns-in-Number : goal.returns-in-Number
 returns-in-Number c =
-    let s = c in
     by (goal.at.returns-in-Number c).Start _ _ c.signed-in-Number.result c.in-Number.is c.signed-in-Number.ensures
-    (rounded_number (format_of s.args.w) c.in-Number.n c.pack.result c.pack.ensures)
+    (rounded_number (format_of c.args.w) c.in-Number.n c.pack.result c.pack.ensures)

@@ -15,11 +15,10 @@ room binary64 r h = omega arith
 
 pub overflow_add-result : goal.overflow_add-result
 overflow_add-result c =
-    let s = c in
     record {
       fits =
-          subst (λ (l : Layout). l.sign + s.args.rest < 2 ^ 64) (sym c.layout.ensures)
-          (room (format_of s.args.w) s.args.rest s.requires);
+          subst (λ (l : Layout). l.sign + c.args.rest < 2 ^ 64) (sym c.layout.ensures)
+          (room (format_of c.args.w) c.args.rest c.requires);
     }
 
 pub returns-then-negative : goal.returns-then-negative

@@ -33,9 +33,8 @@ module _ (a : After-layout-l) where
 
 pub returns-then-field-l : goal.returns-then-field-l
 returns-then-field-l c =
-    let a = c in
     let e = infinite-is (goal.at.returns-then-field-l c).After-layout-l c.if-field-l.true in
-    fields_infinite (f (goal.at.returns-then-field-l c).After-layout-l) a.args.negative (x (goal.at.returns-then-field-l c).After-layout-l) (t (goal.at.returns-then-field-l c).After-layout-l) e (a.requires.no_nan e)
+    fields_infinite (f (goal.at.returns-then-field-l c).After-layout-l) c.args.negative (x (goal.at.returns-then-field-l c).After-layout-l) (t (goal.at.returns-then-field-l c).After-layout-l) e (c.requires.no_nan e)
 
 pub overflow_add-t : goal.overflow_add-t
 overflow_add-t c = omega (arith, (high (goal.at.overflow_add-t c).After-layout-l).few)
@@ -46,9 +45,8 @@ normal-requires c = let h = high (goal.at.normal-requires c).After-layout-l in
 
 pub returns-then-field-gt0 : goal.returns-then-field-gt0
 returns-then-field-gt0 c =
-    let a = c in
-    stands_high (f (goal.at.returns-then-field-gt0 c).After-layout-l) a.args.negative (x (goal.at.returns-then-field-gt0 c).After-layout-l) (t (goal.at.returns-then-field-gt0 c).After-layout-l) c.normal.result c.if-field-gt0.true
-    (λ e. c.if-field-l.false (e ∙ sym (ap (λ (l : Layout). l.infinite) (is (goal.at.returns-then-field-gt0 c).After-layout-l)))) a.requires.trailing
+    stands_high (f (goal.at.returns-then-field-gt0 c).After-layout-l) c.args.negative (x (goal.at.returns-then-field-gt0 c).After-layout-l) (t (goal.at.returns-then-field-gt0 c).After-layout-l) c.normal.result c.if-field-gt0.true
+    (λ e. c.if-field-l.false (e ∙ sym (ap (λ (l : Layout). l.infinite) (is (goal.at.returns-then-field-gt0 c).After-layout-l)))) c.requires.trailing
     (rw (is (goal.at.returns-then-field-gt0 c).After-layout-l) at c.normal.ensures)
 
 pub normal-requires-then-t-gt0 : goal.normal-requires-then-t-gt0
@@ -57,11 +55,9 @@ normal-requires-then-t-gt0 c = let h = at_low (goal.at.normal-requires-then-t-gt
 
 pub returns-then-t-gt0 : goal.returns-then-t-gt0
 returns-then-t-gt0 c =
-    let a = c in
-    stands_low (f (goal.at.returns-then-t-gt0 c).After-layout-l) a.args.negative (x (goal.at.returns-then-t-gt0 c).After-layout-l) (t (goal.at.returns-then-t-gt0 c).After-layout-l) c.normal-then-t-gt0.result c.if-field-gt0.false
-    a.requires.trailing (rw (is (goal.at.returns-then-t-gt0 c).After-layout-l) at c.normal-then-t-gt0.ensures)
+    stands_low (f (goal.at.returns-then-t-gt0 c).After-layout-l) c.args.negative (x (goal.at.returns-then-t-gt0 c).After-layout-l) (t (goal.at.returns-then-t-gt0 c).After-layout-l) c.normal-then-t-gt0.result c.if-field-gt0.false
+    c.requires.trailing (rw (is (goal.at.returns-then-t-gt0 c).After-layout-l) at c.normal-then-t-gt0.ensures)
 
 pub returns : goal.returns
 returns c =
-    let a = c in
-    fields_zero (f (goal.at.returns c).After-layout-l) a.args.negative (x (goal.at.returns c).After-layout-l) (t (goal.at.returns c).After-layout-l) c.if-field-gt0.false c.if-t-gt0.false
+    fields_zero (f (goal.at.returns c).After-layout-l) c.args.negative (x (goal.at.returns c).After-layout-l) (t (goal.at.returns c).After-layout-l) c.if-field-gt0.false c.if-t-gt0.false

@@ -4,8 +4,7 @@ use Rattle.nyerdzumak.proofs.transforms.give_inverse.Goals as goal
 
 pub returns-in-Inverted : goal.returns-in-Inverted
 returns-in-Inverted c =
-    let a = c in
-    record { value = a.number-number.ensures; out = rw a.in-Inverted.is c.give_told.ensures.out_after; rounded = rw a.in-Inverted.is c.give_told.ensures.rounded }
+    record { value = c.number-number.ensures; out = rw c.in-Inverted.is c.give_told.ensures.out_after; rounded = rw c.in-Inverted.is c.give_told.ensures.rounded }
 
 pub returns-in-NearlySingular : goal.returns-in-NearlySingular
 returns-in-NearlySingular c = record { value = c.number-number.ensures; out = rw c.in-NearlySingular.is refl; rounded = rw c.in-NearlySingular.is refl }

@@ -3,5 +3,4 @@ use Rattle.nyerdzumak.proofs.transforms.nz_transform_invert.Goals as goal
 
 pub returns : goal.returns
 returns c =
-    let i = c in
-    rw (← i.matrix.ensures, ← i.invert.ensures) c.give_inverse.ensures
+    rw (← c.matrix.ensures, ← c.invert.ensures) c.give_inverse.ensures

@@ -5,12 +5,9 @@ use Rattle.quads.proofs.Quad.tangent_at.Goals as goal
 pub returns-then-first-last : goal.returns-then-first-last
 unfolding quad_tangent
 returns-then-first-last c =
-    let l = c in
-    rw (← l.same.ensures, ← l.same-2.ensures, c.if-first-last.true) c.minus.ensures
+    rw (← c.same.ensures, ← c.same-2.ensures, c.if-first-last.true) c.minus.ensures
 
 pub returns : goal.returns
 unfolding quad_tangent
 returns c =
-    let s = c in
-    let l = c in
-    rw (← l.same.ensures, ← l.same-2.ensures, s.if-first-last.false, c.slope-2.ensures, s.slope.ensures)
+    rw (← c.same.ensures, ← c.same-2.ensures, c.if-first-last.false, c.slope-2.ensures, c.slope.ensures)

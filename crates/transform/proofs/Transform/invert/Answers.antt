@@ -9,14 +9,10 @@ returns-then-is_identity c =
 
 pub returns-then-is_scale_translate : goal.returns-then-is_scale_translate
 returns-then-is_scale_translate c =
-    let s = c in
-    let i = c in
     c.unskewed.ensures
-    ∙ by_scale _ (sym i.is_identity.ensures ∙ i.if-is_identity.false) (sym s.is_scale_translate.ensures ∙ s.if-is_scale_translate.true)
+    ∙ by_scale _ (sym c.is_identity.ensures ∙ c.if-is_identity.false) (sym c.is_scale_translate.ensures ∙ c.if-is_scale_translate.true)
 
 pub returns : goal.returns
 returns c =
-    let s = c in
-    let i = c in
     c.skewed.ensures
-    ∙ by_determinant _ (sym i.is_identity.ensures ∙ i.if-is_identity.false) (sym s.is_scale_translate.ensures ∙ s.if-is_scale_translate.false)
+    ∙ by_determinant _ (sym c.is_identity.ensures ∙ c.if-is_identity.false) (sym c.is_scale_translate.ensures ∙ c.if-is_scale_translate.false)

@@ -34,17 +34,15 @@ returns-then-has_skew c =
 
 pub returns-then-is_identity : goal.returns-then-is_identity
 returns-then-is_identity c =
-    let skew = c in
-    let a = skew.args in
-    rw (skew-first a.self a.p, ← skew.has_skew.ensures, c.if-has_skew.false, ← c.is_identity.ensures, c.if-is_identity.true) refl
+    let a = c.args in
+    rw (skew-first a.self a.p, ← c.has_skew.ensures, c.if-has_skew.false, ← c.is_identity.ensures, c.if-is_identity.true) refl
 
 pub returns-then-is_translate : goal.returns-then-is_translate
 returns-then-is_translate c =
-    let skew = c in
-    let a = skew.args in
+    let a = c.args in
     rw (
       skew-first a.self a.p,
-      ← skew.has_skew.ensures,
+      ← c.has_skew.ensures,
       c.if-has_skew.false,
       ← c.is_identity.ensures,
       c.if-is_identity.false,
@@ -54,11 +52,10 @@ returns-then-is_translate c =
 
 pub returns : goal.returns
 returns c =
-    let skew = c in
-    let a = skew.args in
+    let a = c.args in
     rw (
       skew-first a.self a.p,
-      ← skew.has_skew.ensures,
+      ← c.has_skew.ensures,
       c.if-has_skew.false,
       ← c.is_identity.ensures,
       c.if-is_identity.false,

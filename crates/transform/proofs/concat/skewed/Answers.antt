@@ -8,15 +8,13 @@ use Rattle.transform.proofs.concat.skewed.Goals as goal
 pub returns : goal.returns
 unfolding skewed_product some_lost some_rounded
 returns c =
-    let last = c in
-    let fifth = c in
     c.together.ensures ∙ rw (
-      fifth.mul_add_mul.ensures,
-      fifth.mul_add_mul-2.ensures,
-      fifth.mul_add_mul-3.ensures,
-      fifth.mul_add_mul-4.ensures,
-      last.moved.ensures,
-      fifth.mul_add_mul-5.ensures,
+      c.mul_add_mul.ensures,
+      c.mul_add_mul-2.ensures,
+      c.mul_add_mul-3.ensures,
+      c.mul_add_mul-4.ensures,
+      c.moved.ensures,
+      c.mul_add_mul-5.ensures,
       c.moved-2.ensures,
-      last.mul_add_mul-6.ensures,
+      c.mul_add_mul-6.ensures,
     )

@@ -8,13 +8,11 @@ use Rattle.transform.proofs.invert.inv_determinant.Goals as goal
 pub returns-then-is_nearly_zero_within_tolerance : goal.returns-then-is_nearly_zero_within_tolerance
 unfolding inv_determinant
 returns-then-is_nearly_zero_within_tolerance c =
-    let n = c in
-    let near = c.is_nearly_zero_within_tolerance.ensures ∙ ap (λ (e : Entry). nearly_zero e.value nearly_nothing) n.of-tested.ensures in
-    rw (← n.dcross-det.ensures, ← near, c.if-is_nearly_zero_within_tolerance.true)
+    let near = c.is_nearly_zero_within_tolerance.ensures ∙ ap (λ (e : Entry). nearly_zero e.value nearly_nothing) c.of-tested.ensures in
+    rw (← c.dcross-det.ensures, ← near, c.if-is_nearly_zero_within_tolerance.true)
 
 pub returns-else-is_nearly_zero_within_tolerance : goal.returns-else-is_nearly_zero_within_tolerance
 unfolding inv_determinant
 returns-else-is_nearly_zero_within_tolerance c =
-    let n = c in
-    let near = c.is_nearly_zero_within_tolerance.ensures ∙ ap (λ (e : Entry). nearly_zero e.value nearly_nothing) n.of-tested.ensures in
-    rw (← n.dcross-det.ensures, ← near, c.if-is_nearly_zero_within_tolerance.false, n.of-tested.ensures)
+    let near = c.is_nearly_zero_within_tolerance.ensures ∙ ap (λ (e : Entry). nearly_zero e.value nearly_nothing) c.of-tested.ensures in
+    rw (← c.dcross-det.ensures, ← near, c.if-is_nearly_zero_within_tolerance.false, c.of-tested.ensures)

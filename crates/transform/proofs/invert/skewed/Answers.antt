@@ -7,6 +7,5 @@ returns-in_default c = rw (← c.inv_determinant.ensures, c.in_default.is)
 
 pub returns : goal.returns
 returns c =
-    let i = c in
-    rw (← i.inv_determinant.ensures, i.in-Is.is)
-    (c.checked.ensures ∙ rw i.compute_inv-inverse.ensures)
+    rw (← c.inv_determinant.ensures, c.in-Is.is)
+    (c.checked.ensures ∙ rw c.compute_inv-inverse.ensures)

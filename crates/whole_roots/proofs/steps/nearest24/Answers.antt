@@ -84,12 +84,10 @@ overflow_add-result c = record { fits = omega (arith, hi (goal.at.overflow_add-r
 
 pub returns-then-t-p : goal.returns-then-t-p
 returns-then-t-p c =
-    let a = c in
     subst (λ (m : ℕ). Nearest (m * 65536) (s (goal.at.returns-then-t-p c).After-near-s * 256 + p (goal.at.returns-then-t-p c).After-near-s + 1)) (n-is (goal.at.returns-then-t-p c).After-near-s)
     (last.goes_up 256 11 (s (goal.at.returns-then-t-p c).After-near-s) (rest (goal.at.returns-then-t-p c).After-near-s) (some (goal.at.returns-then-t-p c).After-near-s) c.if-t-p.true (omega (arith, u_lt (goal.at.returns-then-t-p c).After-near-s, p_most (goal.at.returns-then-t-p c).After-near-s, lo (goal.at.returns-then-t-p c).After-near-s)))
 
 pub returns-else-t-p : goal.returns-else-t-p
 returns-else-t-p c =
-    let a = c in
     subst (λ (m : ℕ). Nearest (m * 65536) (s (goal.at.returns-else-t-p c).After-near-s * 256 + p (goal.at.returns-else-t-p c).After-near-s)) (n-is (goal.at.returns-else-t-p c).After-near-s)
     (last.stays 256 11 (s (goal.at.returns-else-t-p c).After-near-s) (rest (goal.at.returns-else-t-p c).After-near-s) (some (goal.at.returns-else-t-p c).After-near-s) c.if-t-p.false (omega (arith, last.u_ge 256 11 (s (goal.at.returns-else-t-p c).After-near-s) (rest (goal.at.returns-else-t-p c).After-near-s) (some (goal.at.returns-else-t-p c).After-near-s), square_le (goal.at.returns-else-t-p c).After-near-s, lo (goal.at.returns-else-t-p c).After-near-s)))

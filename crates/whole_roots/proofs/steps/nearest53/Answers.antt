@@ -91,12 +91,10 @@ overflow_add-result c = record { fits = omega (arith, hi (goal.at.overflow_add-r
 
 pub returns-then-t-p : goal.returns-then-t-p
 returns-then-t-p c =
-    let a = c in
     subst (λ (m : ℕ). Nearest (m * 4503599627370496) (s (goal.at.returns-then-t-p c).After-near27-s * 67108864 + p (goal.at.returns-then-t-p c).After-near27-s + 1)) (n-is (goal.at.returns-then-t-p c).After-near27-s)
     (last.goes_up 67108864 2 (s (goal.at.returns-then-t-p c).After-near27-s) (rest (goal.at.returns-then-t-p c).After-near27-s) (some (goal.at.returns-then-t-p c).After-near27-s) c.if-t-p.true (omega (arith, u_lt (goal.at.returns-then-t-p c).After-near27-s, enough (p (goal.at.returns-then-t-p c).After-near27-s) (s (goal.at.returns-then-t-p c).After-near27-s) (lo (goal.at.returns-then-t-p c).After-near27-s) (split (p (goal.at.returns-then-t-p c).After-near27-s) 25165824))))
 
 pub returns-else-t-p : goal.returns-else-t-p
 returns-else-t-p c =
-    let a = c in
     subst (λ (m : ℕ). Nearest (m * 4503599627370496) (s (goal.at.returns-else-t-p c).After-near27-s * 67108864 + p (goal.at.returns-else-t-p c).After-near27-s)) (n-is (goal.at.returns-else-t-p c).After-near27-s)
     (last.stays 67108864 2 (s (goal.at.returns-else-t-p c).After-near27-s) (rest (goal.at.returns-else-t-p c).After-near27-s) (some (goal.at.returns-else-t-p c).After-near27-s) c.if-t-p.false (omega (arith, last.u_ge 67108864 2 (s (goal.at.returns-else-t-p c).After-near27-s) (rest (goal.at.returns-else-t-p c).After-near27-s) (some (goal.at.returns-else-t-p c).After-near27-s), square_le (goal.at.returns-else-t-p c).After-near27-s, lo (goal.at.returns-else-t-p c).After-near27-s)))
