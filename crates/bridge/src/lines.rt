@@ -1,6 +1,7 @@
 // Standard input, gathered line by line.
 use super::answer;
-use libc::STDIN_FILENO;
+use std::io;
+use std::io::{Input, Read};
 
 // How many bytes of the line at hand are kept, and its number.
 #[derive(Clone, Copy)]
@@ -10,60 +11,56 @@ pub struct Place {
 }
 
 // Writes what the line comes to.
-fn shown(line: &[u8], at: Place) {
+fn shown(rt: &impl Print, line: &[u8], at: Place) -> io::Result<()> {
     let kept = at.kept;
     if kept <= line.len() {
-        answer::show(at.number, &line[..kept]);
+        return answer::show(rt, at.number, &line[..kept]);
     }
+    Ok(())
 }
 
 // One byte more: a newline ends the line, and a byte for which there is no room is left out.
-fn gathered(line: &mut [u8], at: Place, b: u8) -> Place {
+fn gathered(rt: &impl Print, line: &mut [u8], at: Place, b: u8) -> io::Result<Place> {
     let kept = at.kept;
     if b == b'\n' {
-        shown(line, at);
-        return Place {
+        shown(rt, line, at)?;
+        return Ok(Place {
             kept: 0,
-            number: std::num::wrapping_add_u64(at.number, 1),
-        };
+            number: at.number.wrapping_add(1),
+        });
     }
     if kept < line.len() {
         line[kept] = b;
-        return Place {
+        return Ok(Place {
             kept: kept + 1,
             number: at.number,
-        };
+        });
     }
-    at
+    Ok(at)
 }
 
 // The bytes of a piece of the input, one after the other.
-fn all_gathered(line: &mut [u8], at: Place, piece: &[u8]) -> Place {
+fn all_gathered(rt: &impl Print, line: &mut [u8], at: Place, piece: &[u8]) -> io::Result<Place> {
     let mut now = at;
-    let mut i = 0;
-    while i < piece.len() {
-        now = gathered(line, now, piece[i]);
-        i += 1;
+    for b in piece {
+        now = gathered(rt, line, now, *b)?;
     }
-    now
+    Ok(now)
 }
 
 // There is room for one byte more than a line may have, so that a longer one is still too long. A proved loop
-// has to end, and nothing says that the input does: it counts its turns down from a number that no input uses up.
-pub fn run() {
-    let mut room = [0u8; 257];
-    let line: &mut [u8] = &mut room;
-    let mut space = io::buffer();
-    let piece: &mut [u8] = &mut space;
+// has to end, and nothing says that the input does: its turns are counted by a number that no input uses up.
+pub fn run(rt: &(impl Input + Print)) -> io::Result<()> {
+    let mut line = [0u8; 257];
+    let mut piece = [0u8; 4096];
+    let mut input = rt.reader();
     let mut at = Place { kept: 0, number: 1 };
-    let mut turns = u64::MAX;
-    while turns > 0 {
-        let n = io::count(libc::read(STDIN_FILENO, piece), piece);
+    for _ in 0..u64::MAX {
+        let n = input.read(&mut piece)?;
         if n == 0 {
             break;
         }
-        at = all_gathered(line, at, &piece[..n]);
-        turns -= 1;
+        at = all_gathered(rt, &mut line, at, &piece[..n])?;
     }
-    shown(line, at);
+    shown(rt, &line, at)
 }

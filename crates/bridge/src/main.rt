@@ -5,6 +5,8 @@
 mod answer;
 mod lines;
 
-fn main() {
-    lines::run();
+use std::io;
+
+fn main(rt: HostRuntime) -> io::Result<()> {
+    lines::run(&rt)
 }

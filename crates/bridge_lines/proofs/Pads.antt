@@ -1,6 +1,6 @@
 -- Laws on a pad's line: two words byte by byte, the words behind the first, and a number by its last digit. Assumes nothing.
 use Rattle.std.proofs.Common.{◌≡◌, ℕ, zero, suc, ◌+◌, ◌-◌, ◌*◌, ◌<◌, ◌≤◌, Bool, true, false, cond, ◌&&◌, eqb, ltb, leb, List, [], ◌∷◌, ◌++◌, length, get_or, take, drop, sym, refl, ap, ◌∙◌, true≢false, arith, take_all, drop-cons, take-suc, ltb-true, eq-eqb, ne_eqb, leb-true}
-use mathlib.Core.Bool.{and_false}
+use mathlib.Core.Bool.{and-false}
 use Rattle.bridge_lines.specs.Decimal.{all_digits, is_whole, size_after, size_of}
 use Rattle.bridge_lines.specs.Kinds.{is_of}
 use Rattle.bridge_lines.specs.Pad.{same}
@@ -16,7 +16,7 @@ unfolding same
 other_length [] [] h = absurd (h refl)
 other_length [] (c ∷ m) h = refl
 other_length (b ∷ l) [] h = refl
-other_length (b ∷ l) (c ∷ m) h = rw (other_length l m (λ e. h (ap suc e))) (and_false (eqb b c))
+other_length (b ∷ l) (c ∷ m) h = rw (other_length l m (λ e. h (ap suc e))) (and-false (eqb b c))
 
 module _ (l m : List ℕ) (i : ℕ) (h : i < length l) (g : i < length m) where
   pub differ : (get_or l i 0 ≡ get_or m i 0 → ⊥) → same (drop i l) (drop i m) ≡ false

@@ -1,5 +1,5 @@
 -- What a call that makes a table answers, by the tests that led there. Assumes nothing.
-use Rattle.std.proofs.Common.{◌≡◌, ℕ, ◌+◌, ◌-◌, ◌*◌, ◌%◌, ◌^◌, ◌<◌, ◌≤◌, Bool, true, false, cond, not, ◌||◌, ltb, List, [], ◌∷◌, ◌++◌, length, take, drop, sym, refl, ap, ◌∙◌, arith, take_at, pow_mono, le-ltb, lt-ltb, eq-eqb, ne_eqb}
+use Rattle.std.proofs.Common.{◌≡◌, ℕ, ◌+◌, ◌-◌, ◌*◌, ◌%◌, ◌^◌, ◌<◌, ◌≤◌, Bool, true, false, cond, not, ◌||◌, ltb, List, ◌++◌, length, take, drop, sym, refl, ap, ◌∙◌, arith, take_at, pow_mono, le-ltb, lt-ltb, eq-eqb, ne_eqb}
 use lib.Seq.{sets}
 use lib.Ieee.{Float}
 use Rattle.point.specs.Numbers.{flat, points_of}
@@ -17,7 +17,7 @@ use Rattle.date_table.specs.declared.Refusal.{Refusal}
 use Rattle.date_table.specs.declared.Refusal.TheVariants.{LevelTooHigh, BufferTooShort, EntryOutOfRange, TableFalls}
 use Rattle.date_table.specs.Answers.{number_of_made, values_of_made}
 use Rattle.date_table.specs.Making.{by_both_axes, taken_of, rounded_of, all_in_range, cut_of, table_room, stored_by, refuse_made, made_answer, made_table, MadeInto}
-use Rattle.date_table.specs.Table.{within, rising, refuse_table, check_of}
+use Rattle.date_table.specs.Table.{rising, refuse_table, check_of}
 use Rattle.date_table.proofs.Dates.{passed_well, refused_too}
 use Rattle.date_table.proofs.Taken.{rounded_length, within_all}
 

@@ -1,7 +1,6 @@
 -- The laws of lookups in specs/Laws.antt, over the specs alone. Assumes nothing.
-use Rattle.std.proofs.Common.{◌≡◌, ℕ, ◌%◌, ◌<◌, ◌≤◌, Bool, true, false, cond, not, ◌&&◌, ◌||◌, eqb, ltb, leb, List, [], ◌∷◌, length, sym, refl, ap, ◌∙◌, arith, ltb-false, le-ltb, eqb-true, leb-true}
+use Rattle.std.proofs.Common.{◌≡◌, ℕ, ◌%◌, ◌≤◌, Bool, true, false, cond, not, ◌&&◌, ◌||◌, eqb, ltb, leb, List, [], ◌∷◌, length, refl, ap, ◌∙◌, arith, ltb-false, le-ltb, eqb-true, leb-true}
 use borrow.Author.Tests.{eqb-false}
-use Rattle.date_table.specs.declared.lookup.Check.{Check}
 use Rattle.date_table.specs.declared.lookup.Check.TheVariants as C
 use Rattle.date_table.specs.declared.Dated.{Dated}
 use Rattle.date_table.specs.declared.Dated.TheVariants as D
@@ -9,7 +8,7 @@ use Rattle.date_table.specs.declared.Refusal.{Refusal}
 use Rattle.date_table.specs.declared.Refusal.TheVariants.{BufferTooShort, OddLength, EntryOutOfRange, TimeOutside, TableFalls}
 use Rattle.date_table.specs.Answers.{number_of_refusal, values_of_refusal, number_of_dated, values_of_dated}
 use Rattle.date_table.specs.Laws.{LaterIsNotEarlier, DatesLieInTheTable, DatesAreInRange, EveryTimeIsDated, NoOtherIsDated, TheLastIsKept}
-use Rattle.date_table.specs.Table.{within, rising, refuse_table, check_of, first_x, first_y, last_x, last_y, date_in, outside, refuse_time, date_of, DatedAt}
+use Rattle.date_table.specs.Table.{within, rising, refuse_table, check_of, first_x, last_x, last_y, date_in, outside, refuse_time, date_of, DatedAt}
 use Rattle.date_table.specs.Whole.{max_entry}
 use Rattle.date_table.proofs.Walk.{and_parts, Good, one, more, good_of, ends_x, walk, walk_low, walk_high, walk_mono, walk_last, date_walk}
 

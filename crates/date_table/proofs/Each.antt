@@ -1,10 +1,10 @@
 -- Of many times each gets the date that it gets alone. Assumes nothing.
-use Rattle.std.proofs.Common.{◌≡◌, ℕ, zero, suc, ◌%◌, ◌<◌, Bool, true, false, cond, eqb, ltb, List, [], ◌∷◌, map, length, get_or, sym, refl, ap, ◌∙◌, arith, ltb-false}
+use Rattle.std.proofs.Common.{◌≡◌, ℕ, ◌%◌, Bool, true, false, cond, eqb, ltb, List, length, get_or, sym, refl, ap, ◌∙◌, ltb-false}
 use Rattle.date_table.specs.declared.AllDated.TheVariants.{Dates, OutsideAt, Refused}
 use Rattle.date_table.specs.declared.lookup.Check.TheVariants as C
 use Rattle.date_table.specs.declared.Dated.TheVariants.{Date}
 use Rattle.date_table.specs.Laws.{EachAsAlone}
-use Rattle.date_table.specs.All.{first_outside, all_answer, all_times}
+use Rattle.date_table.specs.All.{first_outside, all_answer}
 use Rattle.date_table.specs.Table.{within, rising, check_of, date_in}
 use Rattle.date_table.proofs.Dates.{absurd_0, chosen, dated}
 use Rattle.date_table.proofs.Many.{inside_of, none-outside, map_at, all_dated}

@@ -11,7 +11,7 @@ use Rattle.date_table.specs.declared.Dated.TheVariants.{Date, Refused}
 use Rattle.date_table.specs.declared.Refusal.TheVariants.{BufferTooShort, OddLength, EntryOutOfRange, TimeOutside, TableFalls}
 use Rattle.date_table.specs.Forward.{Forward}
 use Rattle.date_table.specs.Whole.{in_range}
-use Rattle.date_table.specs.Table.{within, rising, check_of, first_x, last_x, last_y, or_else, last_from, span_at, date_in, date_of}
+use Rattle.date_table.specs.Table.{within, rising, first_x, last_x, last_y, or_else, last_from, span_at, date_in, date_of}
 
 figures : map (date_of (0 ∷ 0 ∷ 3 ∷ 1 ∷ 4 ∷ 4 ∷ [])) (0 ∷ 1 ∷ 2 ∷ 3 ∷ 4 ∷ 5 ∷ []) ≡ Date 0 ∷ Date 0 ∷ Date 0 ∷ Date 1 ∷ Date 4 ∷ Refused TimeOutside ∷ []
 unfolding date_of within rising first_x last_x last_y or_else last_from span_at date_in

@@ -1,6 +1,6 @@
 -- A forward bridge is never refused: the points of its cut rise along both axes from its start to its end, so every second one does,
 -- lies in range, and is rounded to a table that rises. Assumes nothing.
-use Rattle.std.proofs.Common.{◌≡◌, ℕ, ◌+◌, ◌*◌, ◌%◌, ◌^◌, ◌<◌, ◌≤◌, Bool, true, false, cond, ◌&&◌, T, List, [], ◌∷◌, ◌++◌, length, take, drop, pos, sym, refl, ap, ◌∙◌, ⊎_elim, arith, take_at, drop_at, le-ltb, le-leb}
+use Rattle.std.proofs.Common.{◌≡◌, ℕ, ◌+◌, ◌%◌, ◌^◌, ◌≤◌, Bool, true, false, ◌&&◌, T, List, [], ◌∷◌, ◌++◌, length, take, drop, pos, sym, refl, ap, ◌∙◌, ⊎_elim, arith, take_at, drop_at, le-ltb, le-leb}
 use mathlib.Core.Path.{subst⁻¹}
 use lib.Ieee.{Float, nan, inf, fin, le}
 use lib.Ieee.Bits.{is_true}
@@ -13,7 +13,6 @@ use Rattle.conic.specs.declared.Conic.{Conic}
 use Rattle.conic.specs.declared.Rule.TheVariants.{BothAxes}
 use Rattle.conic.specs.declared.ruling.Test.TheVariants as By
 use Rattle.conic.specs.Chop.{along, chop_by_rule}
-use Rattle.conic.specs.Level.{ceiling}
 use Rattle.conic.specs.Source.{short_source}
 use Rattle.conic.specs.Rule.{Axis, X, Y, test_along}
 use Rattle.conic_cut.specs.Order.{Steps, ge, AllFiniteCoordinates, first_of, last_of, Premise, InOrder}
@@ -24,9 +23,9 @@ use Rattle.date_table.specs.declared.Made.{Made}
 use Rattle.date_table.specs.declared.Made.TheVariants.{Entries}
 use Rattle.date_table.specs.Forward.{Forward, table_in, DatesThrough, NeverRefused}
 use Rattle.date_table.specs.Making.{by_both_axes, every_second, taken_of, rounded_of, all_in_range, cut_of, table_room, made_answer, made_table, MadeInto}
-use Rattle.date_table.specs.Table.{rising, check_of, first_x, first_y, last_x, last_y, date_in}
+use Rattle.date_table.specs.Table.{rising, check_of, first_x, first_y, last_x, last_y}
 use Rattle.date_table.specs.Whole.{in_range, whole_of}
-use Rattle.date_table.proofs.Dates.{absurd_0, sound, dated, walked}
+use Rattle.date_table.proofs.Dates.{sound, dated, walked}
 use Rattle.date_table.proofs.Answers.{table, table_length, made}
 use Rattle.date_table.proofs.Pass.{is_well}
 use Rattle.date_table.proofs.Taken.{within_all}

@@ -1,5 +1,5 @@
 -- At the x of an entry, the last with that x, the date is its y. Assumes nothing.
-use Rattle.std.proofs.Common.{◌≡◌, ℕ, suc, ◌+◌, ◌-◌, ◌*◌, ◌/◌, ◌%◌, ◌<◌, ◌≤◌, List, [], ◌∷◌, ◌++◌, length, get_or, sym, refl, ap, ◌∙◌, arith, length-append, get_or-append-add}
+use Rattle.std.proofs.Common.{◌≡◌, ℕ, suc, ◌+◌, ◌-◌, ◌*◌, ◌<◌, ◌≤◌, ◌∷◌, ◌++◌, length, get_or, ap, ◌∙◌, arith, length-append, get_or-append-add}
 use native.Mathlib.Nat.{zero-div}
 use Rattle.date_table.specs.declared.Dated.TheVariants.{Date}
 use Rattle.date_table.specs.Laws.{EntriesAreKept}

@@ -1,5 +1,5 @@
 -- Many times by one table: the first that is outside, and the dates stored over them one by one. Assumes nothing.
-use Rattle.std.proofs.Common.{◌≡◌, ℕ, zero, suc, ◌+◌, ◌<◌, ◌≤◌, Bool, true, false, cond, ltb, List, [], ◌∷◌, map, length, get_or, drop, set, sym, refl, ap, ◌∙◌, append-nil, arith, drop_of_length-le, take_all, drop-cons, ltb-false, le-ltb, lt-ltb}
+use Rattle.std.proofs.Common.{◌≡◌, ℕ, zero, suc, ◌+◌, ◌<◌, ◌≤◌, true, false, cond, ltb, List, [], ◌∷◌, map, length, get_or, drop, set, sym, refl, ap, ◌∙◌, append-nil, arith, drop_of_length-le, take_all, drop-cons, ltb-false, le-ltb, lt-ltb}
 use lib.ListN.{length-map}
 use lib.Seq.{paste, paste-suc, drop-paste}
 use Rattle.date_table.specs.declared.AllDated.{AllDated}

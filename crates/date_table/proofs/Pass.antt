@@ -1,6 +1,6 @@
 -- The test of a table from the entry at i on, a step and the end. Assumes nothing.
-use Rattle.std.proofs.Common.{◌≡◌, ℕ, ◌+◌, ◌%◌, ◌<◌, ◌≤◌, Bool, true, false, cond, ◌&&◌, ◌||◌, eqb, ltb, leb, List, [], ◌∷◌, length, get_or, drop, sym, refl, ap, ◌∙◌, arith, length-drop, drop_of_length-le, get_or-drop, drop-drop, ltb-false, ltb-true, le-ltb, eq-eqb, ne_eqb, le-leb, leb-true}
-use mathlib.Core.Bool.{and_assoc, and_true}
+use Rattle.std.proofs.Common.{◌≡◌, ℕ, ◌+◌, ◌%◌, ◌<◌, ◌≤◌, Bool, true, false, ◌&&◌, ◌||◌, ltb, leb, List, [], ◌∷◌, length, get_or, drop, sym, refl, ap, ◌∙◌, arith, length-drop, drop_of_length-le, get_or-drop, drop-drop, ltb-false, ltb-true, le-ltb, eq-eqb, ne_eqb, le-leb, leb-true}
+use mathlib.Core.Bool.{and_assoc, and-true}
 use borrow.Author.Tests.{lt-leb}
 use lib.Dec.{leb-zero}
 use Rattle.date_table.specs.declared.lookup.Check.TheVariants.{Passed, Refused}
@@ -70,7 +70,7 @@ rises_start (x ∷ y ∷ l) = rises_first x y l
 
 pub rises_end : (i : ℕ) (l : List ℕ) (x y : ℕ) (b : Bool) → length l ≤ i → (b && rising (x ∷ y ∷ drop i l)) ≡ b
 unfolding rising
-rises_end i l x y b h = rw (drop_of_length-le l h) (and_true b)
+rises_end i l x y b h = rw (drop_of_length-le l h) (and-true b)
 
 pub within_end : (i : ℕ) (l : List ℕ) → length l ≤ i → within (drop i l) ≡ true
 unfolding within

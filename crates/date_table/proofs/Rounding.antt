@@ -1,5 +1,5 @@
 -- A float from 0 to 2 to the 24th: what the kit's cast asks, what it gives, and the laws of rounding down. Assumes nothing.
-use Rattle.std.proofs.Common.{◌≡◌, ℕ, ◌+◌, ◌-◌, ◌*◌, ◌/◌, ◌^◌, ◌<◌, ◌≤◌, min, Bool, true, false, cond, ◌&&◌, ◌||◌, T, eqb, ltb, leb, pos, sym, refl, ap, ◌∙◌, le_of_eq, le-div_iff_mul-le, div-mul-le_self, arith, ltb-true, lt-ltb, eqb-true, le-leb}
+use Rattle.std.proofs.Common.{◌≡◌, ℕ, ◌+◌, ◌-◌, ◌*◌, ◌/◌, ◌^◌, ◌<◌, ◌≤◌, min, Bool, true, false, ◌&&◌, ◌||◌, T, eqb, ltb, leb, pos, sym, ◌∙◌, le_of_eq, le-div_iff_mul-le, div-mul-le_self, arith, ltb-true, lt-ltb, eqb-true, le-leb}
 use mathlib.Core.Path.{subst⁻¹}
 use native.Mathlib.Nat.{div-le_of_le-mul, zero-div}
 use borrow.Author.Tests.{lt-leb}

@@ -1,6 +1,6 @@
 -- Every second point of a list, rounded down: how many numbers that is, a step of storing them, and what a table's test says of them.
 -- Assumes nothing.
-use Rattle.std.proofs.Common.{◌≡◌, ℕ, zero, suc, ◌+◌, ◌*◌, ◌<◌, ◌≤◌, Bool, ◌&&◌, leb, List, [], ◌∷◌, map, length, get_or, drop, set, sym, refl, ap, ◌∙◌, arith, length-drop, drop_of_length-le, get_or-drop, drop-drop}
+use Rattle.std.proofs.Common.{◌≡◌, ℕ, zero, suc, ◌+◌, ◌*◌, ◌<◌, ◌≤◌, List, [], ◌∷◌, map, length, get_or, drop, set, refl, ap, ◌∙◌, arith, length-drop, get_or-drop, drop-drop}
 use lib.ListN.{length-map}
 use lib.Seq.{sets}
 use lib.Ieee.{Float, nan}
@@ -9,7 +9,7 @@ use Rattle.point.specs.Numbers.{flat, points_of}
 use Rattle.conic_cut.proofs.Stores.{flat-length}
 use Rattle.date_table.specs.Making.{every_second, taken_of, rounded_of, all_in_range}
 use Rattle.date_table.specs.Table.{within}
-use Rattle.date_table.specs.Whole.{max_entry, in_range, whole_of}
+use Rattle.date_table.specs.Whole.{whole_of}
 use Rattle.date_table.proofs.Rounding.{whole_within}
 
 -- ---- how many they are

@@ -1,5 +1,5 @@
 -- A table that rises, walked from its front: the dates of the walk rise and lie in the table, and it is the date of the specs. Assumes nothing.
-use Rattle.std.proofs.Common.{◌≡◌, ℕ, zero, suc, ◌+◌, ◌-◌, ◌*◌, ◌/◌, ◌%◌, ◌<◌, ◌≤◌, Bool, true, false, cond, ◌&&◌, eqb, leb, List, [], ◌∷◌, length, sym, refl, ap, ◌∙◌, le_trans, mul-le-mul_right, le-div_iff_mul-le, div-mul-le_self, arith, eqb-true, le-leb, leb-false, leb-true}
+use Rattle.std.proofs.Common.{◌≡◌, ℕ, zero, suc, ◌-◌, ◌*◌, ◌/◌, ◌%◌, ◌<◌, ◌≤◌, Bool, true, false, cond, ◌&&◌, eqb, leb, List, [], ◌∷◌, length, sym, refl, ap, ◌∙◌, le_trans, mul-le-mul_right, le-div_iff_mul-le, div-mul-le_self, arith, eqb-true, le-leb, leb-false, leb-true}
 use native.Mathlib.Nat.{div-le_of_le-mul, div-zero}
 use borrow.Author.Tests.{lt-leb, eqb-false}
 use Rattle.date_table.specs.Table.{rising, first_x, first_y, last_x, last_y, or_else, last_from, part_way, span_at, date_in}

@@ -1,7 +1,8 @@
 // Standard input, gathered line by line.
 use super::answer;
 use super::answer::{AtHand, ROOM};
-use libc::STDIN_FILENO;
+use std::io;
+use std::io::{Input, Read};
 
 // How many bytes of the line at hand are kept, its number, and the bridge that stands before it.
 #[derive(Clone, Copy)]
@@ -12,70 +13,78 @@ pub struct Place {
 }
 
 // Writes what the line comes to; the bridge that stands before the next.
-fn shown(table: &mut [u32; ROOM], line: &[u8], at: Place) -> AtHand {
+fn shown(rt: &impl Print, table: &mut [u32; ROOM], line: &[u8], at: Place) -> io::Result<AtHand> {
     let kept = at.kept;
     let bridge = at.bridge;
     if kept <= line.len() {
-        return answer::show(table, at.number, &line[..kept], bridge);
+        return answer::show(rt, table, at.number, &line[..kept], bridge);
     }
-    bridge
+    Ok(bridge)
 }
 
 // One byte more: a newline ends the line, and a byte for which there is no room is left out.
-fn gathered(table: &mut [u32; ROOM], line: &mut [u8], at: Place, b: u8) -> Place {
+fn gathered(
+    rt: &impl Print,
+    table: &mut [u32; ROOM],
+    line: &mut [u8],
+    at: Place,
+    b: u8,
+) -> io::Result<Place> {
     let kept = at.kept;
     if b == b'\n' {
-        let bridge = shown(table, line, at);
-        return Place {
+        let bridge = shown(rt, table, line, at)?;
+        return Ok(Place {
             kept: 0,
-            number: std::num::wrapping_add_u64(at.number, 1),
+            number: at.number.wrapping_add(1),
             bridge,
-        };
+        });
     }
     if kept < line.len() {
         let bridge = at.bridge;
         line[kept] = b;
-        return Place {
+        return Ok(Place {
             kept: kept + 1,
             number: at.number,
             bridge,
-        };
+        });
     }
-    at
+    Ok(at)
 }
 
 // The bytes of a piece of the input, one after the other.
-fn all_gathered(table: &mut [u32; ROOM], line: &mut [u8], at: Place, piece: &[u8]) -> Place {
+fn all_gathered(
+    rt: &impl Print,
+    table: &mut [u32; ROOM],
+    line: &mut [u8],
+    at: Place,
+    piece: &[u8],
+) -> io::Result<Place> {
     let mut now = at;
-    let mut i = 0;
-    while i < piece.len() {
-        now = gathered(table, line, now, piece[i]);
-        i += 1;
+    for b in piece {
+        now = gathered(rt, table, line, now, *b)?;
     }
-    now
+    Ok(now)
 }
 
 // There is room for one byte more than a line may have, so that a longer one is still too long. A proved loop
-// has to end, and nothing says that the input does: it counts its turns down from a number that no input uses up.
-pub fn run() {
+// has to end, and nothing says that the input does: its turns are counted by a number that no input uses up.
+pub fn run(rt: &(impl Input + Print)) -> io::Result<()> {
     let mut table = [0u32; ROOM];
-    let mut room = [0u8; 257];
-    let line: &mut [u8] = &mut room;
-    let mut space = io::buffer();
-    let piece: &mut [u8] = &mut space;
+    let mut line = [0u8; 257];
+    let mut piece = [0u8; 4096];
+    let mut input = rt.reader();
     let mut at = Place {
         kept: 0,
         number: 1,
         bridge: AtHand::Nothing,
     };
-    let mut turns = u64::MAX;
-    while turns > 0 {
-        let n = io::count(libc::read(STDIN_FILENO, piece), piece);
+    for _ in 0..u64::MAX {
+        let n = input.read(&mut piece)?;
         if n == 0 {
             break;
         }
-        at = all_gathered(&mut table, line, at, &piece[..n]);
-        turns -= 1;
+        at = all_gathered(rt, &mut table, &mut line, at, &piece[..n])?;
     }
-    shown(&mut table, line, at);
+    shown(rt, &mut table, &line, at)?;
+    Ok(())
 }

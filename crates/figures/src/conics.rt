@@ -2,118 +2,141 @@
 use super::print;
 use conic::{Conic, Level, Rule};
 use conic_cut::Cut;
+use std::io;
 
 // x and y of each point: one bend, and one whose ys turn back.
 const BEND: [f32; 6] = [0.0, 0.0, 4.0, 0.0, 4.0, 4.0];
 
 const BACK: [f32; 6] = [0.0, 0.0, 0.0, 8.0, 0.0, 0.0];
 
-fn yes(is: bool) {
+fn yes(rt: &impl Print, is: bool) -> io::Result<()> {
     if is {
-        print::text(b" yes");
+        print::text(rt, " yes")
     } else {
-        print::text(b" no");
+        print::text(rt, " no")
     }
 }
 
-fn between(name: &[u8], a: f32, b: f32, c: f32) {
-    print::text(name);
-    print::text(b" product");
-    yes(conic::between_product(a, b, c));
-    print::text(b", exact");
-    yes(conic::between_exact(a, b, c));
-    print::end();
+fn between(rt: &impl Print, name: &str, a: f32, b: f32, c: f32) -> io::Result<()> {
+    print::text(rt, name)?;
+    print::text(rt, " product")?;
+    yes(rt, conic::between_product(a, b, c))?;
+    print::text(rt, ", exact")?;
+    yes(rt, conic::between_exact(a, b, c))?;
+    print::end(rt)
 }
 
 // The level of the conic of weight 0 whose ys are 0, y, 0 and xs 0.
-fn level(name: &[u8], y: f32, tolerance: f32, ceiling: u32) {
-    print::text(name);
+fn level(rt: &impl Print, name: &str, y: f32, tolerance: f32, ceiling: u32) -> io::Result<()> {
+    print::text(rt, name)?;
     match Conic::compute_quad_pow2_from(&[0.0, 0.0, 0.0, y, 0.0, 0.0], 0.0, tolerance, ceiling) {
-        Level::Pow2(n) => print::count(n as u64),
-        Level::Refused(r) => print::refusal(r.number()),
+        Level::Pow2(n) => print::count(rt, n as u64)?,
+        Level::Refused(r) => print::refusal(rt, r.number())?,
     }
-    print::end();
+    print::end(rt)
 }
 
-fn numbers(s: &[f32]) {
-    let mut i = 0;
-    while i < s.len() {
-        print::number(s[i]);
-        i += 1;
+fn numbers(rt: &impl Print, s: &[f32]) -> io::Result<()> {
+    for x in s {
+        print::number(rt, *x)?;
     }
+    Ok(())
 }
 
 // The number of quads, and what `out` then holds.
-fn cut(name: &[u8], out: &mut [f32], rule: Rule, src: &[f32], weight: f32, level: u32) {
-    print::text(name);
+fn cut(
+    rt: &impl Print,
+    name: &str,
+    out: &mut [f32],
+    rule: Rule,
+    src: &[f32],
+    weight: f32,
+    level: u32,
+) -> io::Result<()> {
+    print::text(rt, name)?;
     match conic_cut::chop_into_quads_pow2_from(out, src, weight, rule, level) {
         Cut::Quads(n) => {
-            print::count(n as u64);
-            numbers(out);
+            print::count(rt, n as u64)?;
+            numbers(rt, out)?;
         }
-        Cut::Refused(r) => print::refusal(r.number()),
+        Cut::Refused(r) => print::refusal(rt, r.number())?,
     }
-    print::end();
+    print::end(rt)
 }
 
 // How many quads the bend of weight 1 is cut into.
-fn counted(name: &[u8], level: u32) {
+fn counted(rt: &impl Print, name: &str, level: u32) -> io::Result<()> {
     let mut out = [0.0f32; 258];
-    print::text(name);
+    print::text(rt, name)?;
     match conic_cut::chop_into_quads_pow2_from(&mut out, &BEND, 1.0, Rule::Product, level) {
-        Cut::Quads(n) => print::count(n as u64),
-        Cut::Refused(r) => print::refusal(r.number()),
+        Cut::Quads(n) => print::count(rt, n as u64)?,
+        Cut::Refused(r) => print::refusal(rt, r.number())?,
     }
-    print::end();
+    print::end(rt)
 }
 
 // The product rule's cut of the bend of weight 1.
-fn bend(name: &[u8], out: &mut [f32], level: u32) {
-    cut(name, out, Rule::Product, &BEND, 1.0, level);
+fn bend(rt: &impl Print, name: &str, out: &mut [f32], level: u32) -> io::Result<()> {
+    cut(rt, name, out, Rule::Product, &BEND, 1.0, level)
 }
 
-fn cuts() {
+fn cuts(rt: &impl Print) -> io::Result<()> {
     let mut six = [0.0f32; 6];
-    bend(b"weight 1, level 0:", &mut six, 0);
+    bend(rt, "weight 1, level 0:", &mut six, 0)?;
     let mut nine = [0.0f32; 9];
-    bend(b"nine numbers of room:", &mut nine, 1);
+    bend(rt, "nine numbers of room:", &mut nine, 1)?;
     let mut ten = [0.0f32; 10];
-    bend(b"weight 1, level 1:", &mut ten, 1);
-    counted(b"quads at level 5:", 5);
-    counted(b"quads at level 6, in 258 numbers:", 6);
-    counted(b"quads at level 7:", 7);
+    bend(rt, "weight 1, level 1:", &mut ten, 1)?;
+    counted(rt, "quads at level 5:", 5)?;
+    counted(rt, "quads at level 6, in 258 numbers:", 6)?;
+    counted(rt, "quads at level 7:", 7)?;
     let nan = 0.0 / 0.0;
-    cut(b"NaN weight, exact:", &mut ten, Rule::Exact, &BEND, nan, 1);
     cut(
-        b"NaN weight, both axes:",
+        rt,
+        "NaN weight, exact:",
+        &mut ten,
+        Rule::Exact,
+        &BEND,
+        nan,
+        1,
+    )?;
+    cut(
+        rt,
+        "NaN weight, both axes:",
         &mut ten,
         Rule::BothAxes,
         &BEND,
         nan,
         1,
-    );
-    cut(b"ys 0, 8, 0:", &mut ten, Rule::Exact, &BACK, 1.0, 1);
+    )?;
+    cut(rt, "ys 0, 8, 0:", &mut ten, Rule::Exact, &BACK, 1.0, 1)
 }
 
 // The levels for a tolerance, by the crate's own ceiling, by that of a cut and by another.
-fn levels() {
+fn levels(rt: &impl Print) -> io::Result<()> {
     let own = Conic::MAX_CONIC_TO_QUAD_POW2;
-    level(b"level of 0, 8, 0 at 0.25:", 8.0, 0.25, own);
-    level(b"level of 0, 8, 0 at 4:", 8.0, 4.0, own);
-    level(b"level of 0, 128, 0 at 0.25:", 128.0, 0.25, own);
-    level(b"level of 0, 1024, 0 at 0.25:", 1024.0, 0.25, own);
+    level(rt, "level of 0, 8, 0 at 0.25:", 8.0, 0.25, own)?;
+    level(rt, "level of 0, 8, 0 at 4:", 8.0, 4.0, own)?;
+    level(rt, "level of 0, 128, 0 at 0.25:", 128.0, 0.25, own)?;
+    level(rt, "level of 0, 1024, 0 at 0.25:", 1024.0, 0.25, own)?;
     let high = Conic::MAX_CUT_LEVEL;
-    level(b"the same, ceiling 6:", 1024.0, 0.25, high);
-    level(b"level of 0, 8, 0 at 0.25, ceiling 6:", 8.0, 0.25, high);
-    level(b"level of 0, 1024, 0 at 0.25, ceiling 5:", 1024.0, 0.25, 5);
-    level(b"the same at -1, ceiling 5:", 1024.0, -1.0, 5);
+    level(rt, "the same, ceiling 6:", 1024.0, 0.25, high)?;
+    level(rt, "level of 0, 8, 0 at 0.25, ceiling 6:", 8.0, 0.25, high)?;
+    level(
+        rt,
+        "level of 0, 1024, 0 at 0.25, ceiling 5:",
+        1024.0,
+        0.25,
+        5,
+    )?;
+    level(rt, "the same at -1, ceiling 5:", 1024.0, -1.0, 5)
 }
 
-pub fn show() {
+pub fn show(rt: &impl Print) -> io::Result<()> {
     let low = 7.8886090522101180541e-31;
-    between(b"between 0, 2^-100, 0:", 0.0, low, 0.0);
+    between(rt, "between 0, 2^-100, 0:", 0.0, low, 0.0)?;
     let high = 1.7014118346046923173e38;
-    between(b"between -2^127, 2^127, 2^127:", -high, high, high);
-    levels();
-    cuts();
+    between(rt, "between -2^127, 2^127, 2^127:", -high, high, high)?;
+    levels(rt)?;
+    cuts(rt)
 }

@@ -2,68 +2,70 @@
 use super::print;
 use quad_roots::{Divided, Roots};
 use quads::{Curvature, PointAt};
+use std::io;
 
-fn divide(name: &[u8], numer: f32, denom: f32) {
-    print::text(name);
+fn divide(rt: &impl Print, name: &str, numer: f32, denom: f32) -> io::Result<()> {
+    print::text(rt, name)?;
     match quad_roots::valid_unit_divide(numer, denom) {
-        Divided::None => print::text(b" none"),
-        Divided::One(r) => print::number(r),
+        Divided::None => print::text(rt, " none")?,
+        Divided::One(r) => print::number(rt, r)?,
     }
-    print::end();
+    print::end(rt)
 }
 
-fn roots(name: &[u8], a: f32, b: f32, c: f32) {
-    print::text(name);
+fn roots(rt: &impl Print, name: &str, a: f32, b: f32, c: f32) -> io::Result<()> {
+    print::text(rt, name)?;
     match quad_roots::find_unit_quad_roots(a, b, c) {
-        Roots::None => print::text(b" none"),
-        Roots::One(r) => print::number(r),
+        Roots::None => print::text(rt, " none")?,
+        Roots::One(r) => print::number(rt, r)?,
         Roots::Two(r, s) => {
-            print::number(r);
-            print::number(s);
+            print::number(rt, r)?;
+            print::number(rt, s)?;
         }
     }
-    print::end();
+    print::end(rt)
 }
 
 // The parameter of the maximum curvature and the point there, or the refusal's number.
-fn curvature(name: &[u8], src: &[f32]) {
-    print::text(name);
+fn curvature(rt: &impl Print, name: &str, src: &[f32]) -> io::Result<()> {
+    print::text(rt, name)?;
     let answer = quads::find_quad_max_curvature(src);
     if let Curvature::At(t) = answer {
-        print::number(t);
-        point(quads::eval_quad_at(src, t));
+        print::number(rt, t)?;
+        point(rt, quads::eval_quad_at(src, t))?;
     } else {
-        print::refusal(answer.number());
+        print::refusal(rt, answer.number())?;
     }
-    print::end();
+    print::end(rt)
 }
 
-fn point(answer: PointAt) {
+fn point(rt: &impl Print, answer: PointAt) -> io::Result<()> {
     if let PointAt::At(p) = answer {
-        print::number(p.x);
-        print::number(p.y);
+        print::number(rt, p.x)?;
+        print::number(rt, p.y)
     } else {
-        print::refusal(answer.number());
+        print::refusal(rt, answer.number())
     }
 }
 
-pub fn show() {
-    divide(b"unit divide 1, 2:", 1.0, 2.0);
-    divide(b"unit divide -1, -2:", -1.0, -2.0);
-    divide(b"unit divide 2, 2:", 2.0, 2.0);
-    divide(b"unit divide 0, 1:", 0.0, 1.0);
-    divide(b"unit divide 1, -2:", 1.0, -2.0);
-    roots(b"roots of 8, -6, 1:", 8.0, -6.0, 1.0);
-    roots(b"roots of 4, -4, 1:", 4.0, -4.0, 1.0);
-    roots(b"roots of 0, 4, -1:", 0.0, 4.0, -1.0);
-    roots(b"roots of 1, 0, 1:", 1.0, 0.0, 1.0);
-    roots(b"roots of 0, 0, 1:", 0.0, 0.0, 1.0);
+pub fn show(rt: &impl Print) -> io::Result<()> {
+    divide(rt, "unit divide 1, 2:", 1.0, 2.0)?;
+    divide(rt, "unit divide -1, -2:", -1.0, -2.0)?;
+    divide(rt, "unit divide 2, 2:", 2.0, 2.0)?;
+    divide(rt, "unit divide 0, 1:", 0.0, 1.0)?;
+    divide(rt, "unit divide 1, -2:", 1.0, -2.0)?;
+    roots(rt, "roots of 8, -6, 1:", 8.0, -6.0, 1.0)?;
+    roots(rt, "roots of 4, -4, 1:", 4.0, -4.0, 1.0)?;
+    roots(rt, "roots of 0, 4, -1:", 0.0, 4.0, -1.0)?;
+    roots(rt, "roots of 1, 0, 1:", 1.0, 0.0, 1.0)?;
+    roots(rt, "roots of 0, 0, 1:", 0.0, 0.0, 1.0)?;
     let src = [0.0, 0.0, 1.0, 1.0, 2.0, 0.0];
     curvature(
-        b"max curvature of (0,0) (1,1) (2,0), and the point there:",
+        rt,
+        "max curvature of (0,0) (1,1) (2,0), and the point there:",
         &src,
-    );
+    )?;
     let far = 1.2676506002282294e30; // 2^100
     let src = [0.0, 0.0, far, far, 4.0 * far, 0.0];
-    curvature(b"max curvature of (0,0) (2^100,2^100) (2^102,0):", &src);
+    curvature(rt, "max curvature of (0,0) (2^100,2^100) (2^102,0):", &src)
 }

@@ -1,77 +1,81 @@
 // The figures of the float ground.
 use super::print;
 use float_ground::Narrowed;
+use std::io;
 
-fn root(name: &[u8], x: f32) {
-    print::text(name);
-    print::number(float_ground::sqrt_f32(x));
-    print::end();
+fn root(rt: &impl Print, name: &str, x: f32) -> io::Result<()> {
+    print::text(rt, name)?;
+    print::number(rt, float_ground::sqrt_f32(x))?;
+    print::end(rt)
 }
 
-fn wide_root(name: &[u8], x: f64) {
-    print::text(name);
-    print::wide_number(float_ground::sqrt_f64(x));
-    print::end();
+fn wide_root(rt: &impl Print, name: &str, x: f64) -> io::Result<()> {
+    print::text(rt, name)?;
+    print::wide_number(rt, float_ground::sqrt_f64(x))?;
+    print::end(rt)
 }
 
-fn absolute(name: &[u8], x: f32) {
-    print::text(name);
-    print::number(float_ground::abs_f32(x));
-    print::end();
+fn absolute(rt: &impl Print, name: &str, x: f32) -> io::Result<()> {
+    print::text(rt, name)?;
+    print::number(rt, float_ground::abs_f32(x))?;
+    print::end(rt)
 }
 
-fn narrowed(name: &[u8], x: f64) {
-    print::text(name);
+fn narrowed(rt: &impl Print, name: &str, x: f64) -> io::Result<()> {
+    print::text(rt, name)?;
     match float_ground::narrow(x) {
         Narrowed::Exact(r) => {
-            print::number(r);
-            print::text(b" exact");
+            print::number(rt, r)?;
+            print::text(rt, " exact")?;
         }
         Narrowed::Rounded(r) => {
-            print::number(r);
-            print::text(b" rounded");
+            print::number(rt, r)?;
+            print::text(rt, " rounded")?;
         }
         Narrowed::ToInfinity(r) => {
-            print::number(r);
-            print::text(b" gone to infinity");
+            print::number(rt, r)?;
+            print::text(rt, " gone to infinity")?;
         }
     }
-    print::end();
+    print::end(rt)
 }
 
-fn whole(name: &[u8], n: u32) {
-    print::text(name);
-    print::count(n as u64);
-    print::end();
+fn whole(rt: &impl Print, name: &str, n: u32) -> io::Result<()> {
+    print::text(rt, name)?;
+    print::count(rt, n as u64)?;
+    print::end(rt)
 }
 
-pub fn show() {
-    root(b"root of 4:", 4.0);
-    root(b"root of 2:", 2.0);
-    root(b"root of 2^-149:", 1.0e-45);
-    root(b"root of -0:", -0.0);
-    wide_root(b"f64 root of -0:", -0.0);
+pub fn show(rt: &impl Print) -> io::Result<()> {
+    root(rt, "root of 4:", 4.0)?;
+    root(rt, "root of 2:", 2.0)?;
+    root(rt, "root of 2^-149:", 1.0e-45)?;
+    root(rt, "root of -0:", -0.0)?;
+    wide_root(rt, "f64 root of -0:", -0.0)?;
     whole(
-        b"stored root of 256 * 65536:",
+        rt,
+        "stored root of 256 * 65536:",
         whole_roots::table_entry(256),
-    );
+    )?;
     whole(
-        b"stored root of 257 * 65536:",
+        rt,
+        "stored root of 257 * 65536:",
         whole_roots::table_entry(257),
-    );
+    )?;
     whole(
-        b"stored root of 1023 * 65536:",
+        rt,
+        "stored root of 1023 * 65536:",
         whole_roots::table_entry(1023),
-    );
-    whole(b"stored roots read alike:", whole_roots::read_alike());
-    narrowed(b"16777217 narrowed:", 16777217.0);
-    narrowed(b"16777219 narrowed:", 16777219.0);
-    narrowed(b"-2^-200 narrowed:", -6.223015277861142e-61);
-    narrowed(b"-2^-1074 narrowed:", -5.0e-324);
-    narrowed(b"2^-149 narrowed:", 1.401298464324817e-45);
-    narrowed(b"3 * 2^-150 narrowed:", 2.1019476964872256e-45);
-    narrowed(b"2^128 narrowed:", 3.402823669209385e38);
-    narrowed(b"infinity narrowed:", 1.0 / 0.0);
-    narrowed(b"NaN narrowed:", 0.0 / 0.0);
-    absolute(b"absolute value of -0:", -0.0);
+    )?;
+    whole(rt, "stored roots read alike:", whole_roots::read_alike())?;
+    narrowed(rt, "16777217 narrowed:", 16777217.0)?;
+    narrowed(rt, "16777219 narrowed:", 16777219.0)?;
+    narrowed(rt, "-2^-200 narrowed:", -6.223015277861142e-61)?;
+    narrowed(rt, "-2^-1074 narrowed:", -5.0e-324)?;
+    narrowed(rt, "2^-149 narrowed:", 1.401298464324817e-45)?;
+    narrowed(rt, "3 * 2^-150 narrowed:", 2.1019476964872256e-45)?;
+    narrowed(rt, "2^128 narrowed:", 3.402823669209385e38)?;
+    narrowed(rt, "infinity narrowed:", 1.0 / 0.0)?;
+    narrowed(rt, "NaN narrowed:", 0.0 / 0.0)?;
+    absolute(rt, "absolute value of -0:", -0.0)
 }

@@ -8,10 +8,12 @@ mod ground;
 mod print;
 mod transforms;
 
-fn main() {
-    ground::show();
-    curves::show();
-    conics::show();
-    dates::show();
-    transforms::show();
+use std::io;
+
+fn main(rt: HostRuntime) -> io::Result<()> {
+    ground::show(&rt)?;
+    curves::show(&rt)?;
+    conics::show(&rt)?;
+    dates::show(&rt)?;
+    transforms::show(&rt)
 }

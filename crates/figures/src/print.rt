@@ -1,10 +1,10 @@
 // A line of the figures: a text, then numbers. A float is written as the hexadecimal digits of its pattern, 8 for an f32 and
 // 16 for an f64.
-use libc::STDOUT_FILENO;
+use std::io;
 
 // Writes a text.
-pub fn text(t: &[u8]) {
-    io::write_all(STDOUT_FILENO, t);
+pub fn text(rt: &impl Print, t: &str) -> io::Result<()> {
+    rt.print(t)
 }
 
 // x's pattern; every NaN's is written as 7fc00000.
@@ -16,9 +16,8 @@ fn pattern(x: f32) -> u64 {
 }
 
 // Writes a space and x's pattern.
-pub fn number(x: f32) {
-    text(b" ");
-    io::print_hex(STDOUT_FILENO, pattern(x), 8);
+pub fn number(rt: &impl Print, x: f32) -> io::Result<()> {
+    print!(rt; " {:08x}", pattern(x))
 }
 
 // x's pattern; every NaN's is written as 7ff8000000000000.
@@ -30,24 +29,22 @@ fn wide_pattern(x: f64) -> u64 {
 }
 
 // Writes a space and x's pattern.
-pub fn wide_number(x: f64) {
-    text(b" ");
-    io::print_hex(STDOUT_FILENO, wide_pattern(x), 16);
+pub fn wide_number(rt: &impl Print, x: f64) -> io::Result<()> {
+    print!(rt; " {:016x}", wide_pattern(x))
 }
 
 // Writes a space and n in decimal.
-pub fn count(n: u64) {
-    text(b" ");
-    io::print_decimal(STDOUT_FILENO, n);
+pub fn count(rt: &impl Print, n: u64) -> io::Result<()> {
+    print!(rt; " {n}")
 }
 
 // Writes the number of a refusal.
-pub fn refusal(number: u32) {
-    text(b" refusal");
-    count(number as u64);
+pub fn refusal(rt: &impl Print, number: u32) -> io::Result<()> {
+    text(rt, " refusal")?;
+    count(rt, number as u64)
 }
 
 // Ends the line.
-pub fn end() {
-    text(b"\n");
+pub fn end(rt: &impl Print) -> io::Result<()> {
+    println!(rt)
 }

@@ -1,5 +1,5 @@
 -- Bytes as digits, stored one after the other. Assumes nothing.
-use Rattle.std.proofs.Common.{◌≡◌, ℕ, suc, ◌+◌, ◌*◌, ◌<◌, List, [], ◌∷◌, ◌++◌, length, get_or, drop, set, sym, refl, ap, ◌∙◌, arith, length-append, drop-cons}
+use Rattle.std.proofs.Common.{◌≡◌, ℕ, suc, ◌+◌, ◌*◌, ◌<◌, List, [], ◌∷◌, length, get_or, drop, set, sym, refl, ap, ◌∙◌, arith, length-append, drop-cons}
 use lib.Seq.{sets}
 use Rattle.records.proofs.Stores.{sets_then}
 use Rattle.journal.specs.Text.{digit_of, digits_of, hex_of, line_of}

@@ -5,17 +5,20 @@
 mod text;
 mod window;
 
-use libc::STDIN_FILENO;
+use std::env::{Env, FillError};
+use std::fs::{File, Files};
+use std::io;
+use std::io::Input;
 
 // Prints the journal of a file.
-fn file(path: &[u8]) {
-    let fd = os::open_read(path);
-    if fd < 0 {
-        os::fail(path);
-        return;
+fn file(rt: &(impl Files + Print + Eprint), path: &str) -> io::Result<()> {
+    match File::open(rt, path) {
+        Ok(mut opened) => window::print(rt, &mut opened, path),
+        Err(e) => {
+            text::failed(rt, path, e);
+            Ok(())
+        }
     }
-    window::print(fd, path);
-    libc::close(fd);
 }
 
 fn is_dash(path: &[u8]) -> bool {
@@ -25,27 +28,49 @@ fn is_dash(path: &[u8]) -> bool {
     false
 }
 
-// Prints the journal that argument i names.
-fn named(i: usize) {
-    let mut room = io::buffer();
-    let length = os::arg(i, &mut room);
-    if os::errno() != 0 {
-        os::fail(b"journal: argument");
-        return;
+// Prints the journal of standard input.
+fn standard_input(rt: &(impl Input + Print + Eprint)) -> io::Result<()> {
+    window::print(rt, &mut rt.reader(), "-")
+}
+
+// Prints the journal that an argument names. The name of a file is text: other bytes are told, escaped.
+fn given(rt: &(impl Files + Input + Print + Eprint), name: &[u8]) -> io::Result<()> {
+    if is_dash(name) {
+        return standard_input(rt);
     }
-    if is_dash(&room[..length]) {
-        window::print(STDIN_FILENO, b"-");
-    } else {
-        file(&room[..length]);
+    match str::from_utf8(name) {
+        Ok(path) => file(rt, path),
+        Err(e) => {
+            text::failed(rt, name.escape_ascii(), e);
+            Ok(())
+        }
     }
 }
 
-fn main() {
-    let n = os::arg_count();
-    if n < 2 {
-        window::print(STDIN_FILENO, b"-");
+// Prints the journal that argument i names, and tells whether there is such an argument.
+fn named(rt: &(impl Env + Files + Input + Print + Eprint), i: usize) -> io::Result<bool> {
+    let mut room = [0u8; 4096];
+    match rt.arg(i, &mut room) {
+        Ok(length) => {
+            given(rt, &room[..length])?;
+            Ok(true)
+        }
+        Err(FillError::TooLong) => {
+            text::failed(rt, "journal: argument", "File name too long");
+            Ok(true)
+        }
+        Err(FillError::NotPresent) => Ok(false),
     }
-    for i in 1..n {
-        named(i);
+}
+
+fn main(rt: HostRuntime) -> io::Result<()> {
+    if !named(&rt, 1)? {
+        return standard_input(&rt);
     }
+    for i in 2..usize::MAX {
+        if !named(&rt, i)? {
+            break;
+        }
+    }
+    Ok(())
 }

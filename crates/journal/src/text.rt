@@ -3,8 +3,9 @@ ghost use Rattle.std.specs.Prelude.{◌≡◌, ◌+◌, ◌*◌, ◌<◌, ◌≤
 ghost use Rattle.std.proofs.lemmas.List.Edits.{sets};
 ghost use Rattle.journal.specs.Text.{digit_of, digits_of, hex_of, line_of};
 
-use libc::STDOUT_FILENO;
 use records::Refusal;
+use std::fmt::Display;
+use std::io;
 
 // A hexadecimal digit, in upper case.
 fn digit(n: u8) -> u8
@@ -52,30 +53,32 @@ fn put_line(out: &mut [u8], kind: u32, payload: &[u8]) -> usize
 }
 
 // Writes the line of a record; the longest has the 28 bytes of a conic.
-pub fn record(kind: u32, payload: &[u8]) {
+pub fn record(rt: &impl Print, kind: u32, payload: &[u8]) -> io::Result<()> {
     let mut room = [0u8; 59];
     if kind < 10 {
         if payload.len() <= 28 {
             let n = put_line(&mut room, kind, payload);
-            io::write_all(STDOUT_FILENO, &room[..n]);
+            rt.write_all(&room[..n])?;
         }
     }
+    Ok(())
 }
 
 // Writes the last line of a journal that ends at a boundary, or in a record.
-pub fn ended(whole: bool) {
+pub fn ended(rt: &impl Print, whole: bool) -> io::Result<()> {
     if whole {
-        io::write_all(STDOUT_FILENO, b"end\n");
+        rt.println("end")
     } else {
-        io::write_all(STDOUT_FILENO, b"short\n");
+        rt.println("short")
     }
 }
 
 // Writes the last line of a journal with a record that is refused, and its offset.
-pub fn refused(why: Refusal, offset: u64) {
-    io::write_all(STDOUT_FILENO, b"refused ");
-    io::print_decimal(STDOUT_FILENO, why.number() as u64);
-    io::write_all(STDOUT_FILENO, b" ");
-    io::print_decimal(STDOUT_FILENO, offset);
-    io::write_all(STDOUT_FILENO, b"\n");
+pub fn refused(rt: &impl Print, why: Refusal, offset: u64) -> io::Result<()> {
+    println!(rt; "refused {} {offset}", why.number())
+}
+
+// Tells on standard error what failed, and why. Where standard error is closed nobody is told, and printing goes on.
+pub fn failed<W: Display + Drop, E: Display + Drop>(rt: &impl Eprint, what: W, why: E) {
+    let _ = eprintln!(rt; "{what}: {why}");
 }

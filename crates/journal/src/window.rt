@@ -2,6 +2,8 @@
 // it is cut off, and 34 bytes decide, so that no more are kept however long the journal is.
 use super::text;
 use records::{Found, Record};
+use std::io;
+use std::io::Read;
 
 const ROOM: usize = Record::MAX_RECORD as usize;
 
@@ -14,38 +16,39 @@ pub struct Place {
 }
 
 // Writes what the kept bytes come to, if they come to something.
-fn judged(window: &[u8], at: Place) -> Place {
+fn judged(rt: &impl Print, window: &[u8], at: Place) -> io::Result<Place> {
     match records::read(window, 0) {
         Found::Whole(r, _) => {
             if 6 <= window.len() {
-                text::record(r.kind(), &window[6..]);
+                text::record(rt, r.kind(), &window[6..])?;
             }
-            Place {
+            Ok(Place {
                 kept: 0,
-                offset: std::num::wrapping_add_u64(at.offset, window.len() as u64),
+                offset: at.offset.wrapping_add(window.len() as u64),
                 refused: false,
-            }
+            })
         }
-        Found::End => at,
-        Found::Short => at,
+        Found::End => Ok(at),
+        Found::Short => Ok(at),
         Found::Refused(why, _) => {
-            text::refused(why, at.offset);
-            Place {
+            text::refused(rt, why, at.offset)?;
+            Ok(Place {
                 kept: at.kept,
                 offset: at.offset,
                 refused: true,
-            }
+            })
         }
     }
 }
 
 // One byte more of the record at hand.
-fn gathered(window: &mut [u8], at: Place, b: u8) -> Place {
+fn gathered(rt: &impl Print, window: &mut [u8], at: Place, b: u8) -> io::Result<Place> {
     let kept = at.kept;
     if kept < window.len() {
         window[kept] = b;
         let n = kept + 1;
         return judged(
+            rt,
             &window[0..n],
             Place {
                 kept: n,
@@ -54,51 +57,46 @@ fn gathered(window: &mut [u8], at: Place, b: u8) -> Place {
             },
         );
     }
-    at
+    Ok(at)
 }
 
 // The bytes of a piece of the input, one after the other, up to a refused record.
-fn all_gathered(window: &mut [u8], at: Place, piece: &[u8]) -> Place {
+fn all_gathered(rt: &impl Print, window: &mut [u8], at: Place, piece: &[u8]) -> io::Result<Place> {
     let mut now = at;
-    let mut i = 0;
-    while i < piece.len() {
+    for b in piece {
         if now.refused {
-            return now;
+            return Ok(now);
         }
-        now = gathered(window, now, piece[i]);
-        i += 1;
+        now = gathered(rt, window, now, *b)?;
     }
-    now
+    Ok(now)
 }
 
-// Prints the journal that a descriptor gives. A proved loop has to end, and nothing says that the input does: it counts its turns
-// down from a number that no input uses up. A journal that can't be read has no last line, and why is told by its name.
-pub fn print(fd: i32, name: &[u8]) {
-    let mut room = [0u8; ROOM];
-    let window: &mut [u8] = &mut room;
-    let mut space = io::buffer();
-    let piece: &mut [u8] = &mut space;
+// Prints the journal that a reader gives. A proved loop has to end, and nothing says that the input does: its turns are counted
+// by a number that no input uses up. A journal that can't be read has no last line, and why is told by its name.
+pub fn print<R: Read>(rt: &(impl Print + Eprint), input: &mut R, name: &str) -> io::Result<()> {
+    let mut window = [0u8; ROOM];
+    let mut piece = [0u8; 4096];
     let mut at = Place {
         kept: 0,
         offset: 0,
         refused: false,
     };
-    let mut turns = u64::MAX;
-    while turns > 0 {
-        let got = libc::read(fd, piece);
-        if got < 0 {
-            os::fail(name);
-            return;
-        }
-        let n = io::count(got, piece);
+    for _ in 0..u64::MAX {
+        let n = match input.read(&mut piece) {
+            Ok(n) => n,
+            Err(e) => {
+                text::failed(rt, name, e);
+                return Ok(());
+            }
+        };
         if n == 0 {
             break;
         }
-        at = all_gathered(window, at, &piece[..n]);
+        at = all_gathered(rt, &mut window, at, &piece[..n])?;
         if at.refused {
-            return;
+            return Ok(());
         }
-        turns -= 1;
     }
-    text::ended(at.kept == 0);
+    text::ended(rt, at.kept == 0)
 }

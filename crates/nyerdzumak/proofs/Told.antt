@@ -6,6 +6,8 @@ use lib.Ieee.{Float}
 use Rattle.transform.specs.declared.Computed.{Computed}
 use Rattle.transform.specs.Row.{row_numbers}
 
-pub stored : {l : List Float} {b : Bool} (c k : Computed) → (l ≡ row_numbers c.transform) × (b ≡ c.rounded) → c ≡ k →
-    (l ≡ row_numbers k.transform) × (b ≡ k.rounded)
-stored c k h e = (h.0 ∙ ap (λ (z : Computed). row_numbers z.transform) e, h.1 ∙ ap (λ (z : Computed). z.rounded) e)
+pub stored : {l : List Float} (c k : Computed) → l ≡ row_numbers c.transform → c ≡ k → l ≡ row_numbers k.transform
+stored c k h e = h ∙ ap (λ (z : Computed). row_numbers z.transform) e
+
+pub told : {b : Bool} (c k : Computed) → b ≡ c.rounded → c ≡ k → b ≡ k.rounded
+told c k h e = h ∙ ap (λ (z : Computed). z.rounded) e

@@ -13,6 +13,8 @@ mod record;
 mod sum;
 mod tally;
 
-fn main() {
-    tally::run();
+use std::io;
+
+fn main(rt: HostRuntime) -> io::Result<()> {
+    tally::run(&rt)
 }

@@ -1,7 +1,8 @@
 // The list, read record by record from standard input and counted part by part.
 use super::sum::Sum;
 use super::{of_buffers, of_conics, of_ground, of_roots, of_shapes, of_transforms, record, sum};
-use libc::{STDIN_FILENO, STDOUT_FILENO};
+use std::io;
+use std::io::{ErrorKind, Input, Read};
 
 // Of the part at hand: how many records there were, and in how many the answer was the original's.
 #[derive(Clone, Copy)]
@@ -47,72 +48,66 @@ fn replayed(k: u32, r: &[u8; 80]) -> Sum {
 }
 
 // Writes the rest of the line of a part, after its name.
-fn line(t: Tally) {
-    io::write_all(STDOUT_FILENO, b" ");
-    io::print_decimal(STDOUT_FILENO, t.same);
-    io::write_all(STDOUT_FILENO, b" of ");
-    io::print_decimal(STDOUT_FILENO, t.all);
-    io::write_all(STDOUT_FILENO, b"\n");
+fn line(rt: &impl Print, t: Tally) -> io::Result<()> {
+    println!(rt; " {} of {}", t.same, t.all)
 }
 
 // Writes the name of a part: the bytes of a record from its second word up to an end.
-fn title(r: &[u8], end: usize) {
+fn title(rt: &impl Print, r: &[u8], end: usize) -> io::Result<()> {
     if end < 4 {
-        return;
+        return Ok(());
     }
     if end > r.len() {
-        return;
+        return Ok(());
     }
-    io::write_all(STDOUT_FILENO, &r[4..end]);
+    rt.write_all(&r[4..end])
 }
 
 // The tally with one record more.
 fn counted(t: Tally, r: &[u8; 80]) -> Tally {
     let mut same = t.same;
     if replayed(record::word_at(r, 0), r) == record::pair_at(r, 18) {
-        same = std::num::wrapping_add_u64(same, 1);
+        same = same.wrapping_add(1);
     }
     Tally {
-        all: std::num::wrapping_add_u64(t.all, 1),
+        all: t.all.wrapping_add(1),
         same,
     }
 }
 
 // The tally where a record names those that follow: the line of the part at hand is ended.
-fn turned(t: Tally, r: &[u8; 80]) -> Tally {
+fn turned(rt: &impl Print, t: Tally, r: &[u8; 80]) -> io::Result<Tally> {
     if t.all > 0 {
-        line(t);
+        line(rt, t)?;
     }
-    title(r, record::length_at(r, 19));
-    Tally { all: 0, same: 0 }
+    title(rt, r, record::length_at(r, 19))?;
+    Ok(Tally { all: 0, same: 0 })
 }
 
-fn taken(t: Tally) -> Step {
+// The next record, or the end, where fewer bytes than a record's are left.
+fn taken<R: Read>(rt: &impl Print, input: &mut R, t: Tally) -> io::Result<Step> {
     let mut r = [0u8; 80];
-    if io::read_full(STDIN_FILENO, &mut r) < 80 {
-        return Step::End(t);
+    if let Err(e) = input.read_exact(&mut r) {
+        if e.kind() == ErrorKind::UnexpectedEof {
+            return Ok(Step::End(t));
+        }
+        return Err(e);
     }
     if record::word_at(&r, 0) == 0xffff_ffff {
-        return Step::More(turned(t, &r));
+        return Ok(Step::More(turned(rt, t, &r)?));
     }
-    Step::More(counted(t, &r))
+    Ok(Step::More(counted(t, &r)))
 }
 
-// A proved loop has to end, and nothing says that the input does: it counts its turns down from a number
-// that no list uses up.
-pub fn run() {
+// A proved loop has to end, and nothing says that the input does: its turns are counted by a number that no list uses up.
+pub fn run(rt: &(impl Input + Print)) -> io::Result<()> {
+    let mut input = rt.reader();
     let mut t = Tally { all: 0, same: 0 };
-    let mut turns = u64::MAX;
-    while turns > 0 {
-        match taken(t) {
-            Step::More(next) => {
-                t = next;
-                turns -= 1;
-            }
-            Step::End(last) => {
-                line(last);
-                turns = 0;
-            }
+    for _ in 0..u64::MAX {
+        match taken(rt, &mut input, t)? {
+            Step::More(next) => t = next,
+            Step::End(last) => return line(rt, last),
         }
     }
+    Ok(())
 }

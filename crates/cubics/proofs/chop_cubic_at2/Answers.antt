@@ -6,7 +6,6 @@ use lib.Ieee.{Float}
 use Rattle.point.specs.Numbers.{flat}
 use Rattle.cubics.specs.declared.Cubic.{Cubic}
 use Rattle.cubics.specs.Cubics.{cubic_chop}
-use Rattle.quad_roots.proofs.Asks.{nothing}
 use Rattle.cubics.proofs.chop_cubic_at2.Goals as goal
 
 chop-length : (q : Cubic) (t : Float) → length (cubic_chop q t) ≡ 14

@@ -1,7 +1,6 @@
 -- `cubics::eval_cubic_tangent_at` meets its contract. Assumes nothing.
 use mathlib.Core.Path.{refl}
 use borrow.Author.Tests.{lt-ltb, le-ltb}
-use Rattle.quad_roots.proofs.Asks.{nothing}
 use Rattle.cubics.proofs.eval_cubic_tangent_at.Goals as goal
 
 pub returns-then-outside_unit : goal.returns-then-outside_unit

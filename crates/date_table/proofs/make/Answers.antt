@@ -25,5 +25,5 @@ returns-then-table-spans c =
 
 pub returns : goal.returns
 returns c = let stored = c.store.ensures in
-    let whole = promised (made_into stored.0 stored.1) in
+    let whole = promised (made_into stored.value stored.table) in
     record { made_into = whole.0; forward = whole.1 }

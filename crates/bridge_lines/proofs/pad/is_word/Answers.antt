@@ -1,4 +1,4 @@
-use Rattle.std.proofs.Common.{ℕ, ◌-◌, ◌≤◌, List, length, sym, refl, ◌∙◌, add-one, arith, drop_of_length-le}
+use Rattle.std.proofs.Common.{ℕ, ◌≤◌, List, length, sym, refl, ◌∙◌, add-one, arith, drop_of_length-le}
 use Rattle.bridge_lines.specs.Pad.{same}
 use Rattle.bridge_lines.proofs.Pads.{other_length, differ, agree}
 use Rattle.bridge_lines.proofs.pad.is_word.Goals as goal
@@ -32,7 +32,6 @@ loop-i-preserved c = (
   rw add-one
       (sym (agree _ _ c.loop-i.i (omega arith) (omega arith) c.if-w-i.false)
       ∙ c.loop-i.invariant.1),
-
 )
 
 pub returns : goal.returns

@@ -11,9 +11,9 @@ word-requires c = tt
 pub is_word-requires : goal.is_word-requires
 is_word-requires c = tt
 
-first : (c : After-is_word) (t : Bool) → c.is_IsWord.result ≡ t →
+first : (c : After-is_word) (t : Bool) → c.is_word.result ≡ t →
     same (get_or (words_of c.args.text.now) 0 []) stroke_word ≡ t
-first c t e = rw (← c.word.ensures) (sym c.is_IsWord.ensures ∙ e)
+first c t e = rw (← c.word.ensures) (sym c.is_word.ensures ∙ e)
 
 pub returns-then-is_word : goal.returns-then-is_word
 unfolding too_long_of

@@ -1,11 +1,10 @@
 -- `reading::line` meets its contract: at each turn the words before are in range, and those left lead to what the line comes to. Assumes nothing.
-use Rattle.std.proofs.Common.{◌≡◌, ℕ, ◌+◌, ◌-◌, ◌<◌, ◌≤◌, Bool, true, false, List, [], ◌∷◌, length, get_or, drop, sym, refl, ap, ◌∙◌, arith, below_more}
+use Rattle.std.proofs.Common.{◌≡◌, ℕ, ◌+◌, ◌<◌, ◌≤◌, Bool, true, false, List, [], ◌∷◌, length, get_or, drop, sym, refl, ap, ◌∙◌, arith, below_more}
 use Rattle.bridge_lines.specs.declared.Line.TheVariants.{Good}
-use Rattle.bridge_lines.specs.Reading.{has_form, in_range, judged, bridge_of, line_of}
+use Rattle.bridge_lines.specs.Reading.{has_form, in_range, line_of}
 use Rattle.bridge_lines.specs.Words.{words_of}
 use Rattle.bridge_lines.proofs.Judging.{ends, goes, blank, too_few, no_number, out_of_range, right, too_many, good}
 use Rattle.bridge_lines.proofs.reading.line.Goals as goal
-use Rattle.bridge_lines.proofs.reading.line.Goals.{After-has_form, After-in_range, After-word-w, Else-w-eq0, Then-w-eq0}
 
 none : (j : ℕ) → j < 0 → ⊥
 none j h = omega arith
@@ -13,98 +12,67 @@ none j h = omega arith
 some : {n : ℕ} → 0 < n → n ≡ 0 → ⊥
 some h e = omega arith
 
--- ---- in the loop, past the word at hand
-abbrev At : Type 0
-At = After-word-w
-
-abbrev words : At → List (List ℕ)
-words b = words_of b.args.text.now
-
--- how many were right before it
-abbrev passed : At → ℕ
-passed b = b.loop.k
-
-abbrev word : At → List ℕ
-word b = get_or (words b) (passed b) []
-
-few : (b : At) → passed b < 8
-few b = omega arith
-
-known : (b : At) → judged (passed b + 1) (drop (passed b) (words b)) (Good (bridge_of (words b))) ≡ line_of (words b)
-known b = b.loop-k.invariant.1.1
+-- the word at hand
+abbrev word : List ℕ → ℕ → List ℕ
+word text k = get_or (words_of text) k []
 
 -- where it is empty, and where it is not
-past : (c : Then-w-eq0 → drop (passed c) (words c) ≡ []
-past c =
-    ends c.args.text.now (passed c) (rw c.word-w.ensures at c.if-w-eq0.true)
+past : (text : List ℕ) (k : ℕ) (w : List ℕ) → w ≡ word text k → length w ≡ 0 → drop k (words_of text) ≡ []
+past text k w e h = ends text k (rw e at h)
 
-more : (c : Else-w-eq0 →
-    drop (passed c) (words c) ≡ word c ∷ drop (passed c + 1) (words c)
-more c = goes (words c) (passed c) (rw c.word-w.ensures at c.if-w-eq0.false)
+more : (text : List ℕ) (k : ℕ) (w : List ℕ) → w ≡ word text k → (length w ≡ 0 → ⊥) → drop k (words_of text) ≡ word text k ∷ drop (k + 1) (words_of text)
+more text k w e h = goes (words_of text) k (rw e at h)
 
-formed : (c : After-has_form   (t : Bool) → c.has_form.result ≡ t →
-    has_form (passed c + 1) (word c) ≡ t
-formed c t e = rw (← c.word-w.ensures) (sym c.has_form.ensures ∙ e)
+formed : (text : List ℕ) (k : ℕ) (w : List ℕ) (r t : Bool) → w ≡ word text k → r ≡ has_form (k + 1) w → r ≡ t → has_form (k + 1) (word text k) ≡ t
+formed text k w r t e f h = rw (← e) (sym f ∙ h)
 
-ranged : (c : After-in_range   (t : Bool) → c.dates_in_range.result ≡ t →
-    in_range (passed c + 1) (word c) ≡ t
-ranged c t e = rw (← c.word-w.ensures) (sym c.dates_in_range.ensures ∙ e)
+ranged : (text : List ℕ) (k : ℕ) (w : List ℕ) (r t : Bool) → w ≡ word text k → r ≡ in_range (k + 1) w → r ≡ t → in_range (k + 1) (word text k) ≡ t
+ranged text k w r t e f h = rw (← e) (sym f ∙ h)
 
 pub loop-k-init : goal.loop-k-init
 unfolding line_of
 loop-k-init c = (omega arith, ((λ j h. absurd (none j h)), refl))
 
-pub overflow_add-place : goal.overflow_add-place
-overflow_add-place c = omega arith
-
-pub word-w-requires : goal.word-w-requires
-word-w-requires c = tt
-
 pub returns-then-k-eq0 : goal.returns-then-k-eq0
-returns-then-k-eq0 c = blank (words c) (passed c) (known c) c.if-k-eq0.true (past c)
+returns-then-k-eq0 c =
+    let text = c.args.text.now in
+    let k = c.loop-k.k in
+    blank (words_of text) k c.loop-k.invariant.1.1 c.if-k-eq0.true (past text k _ c.word-w.ensures c.if-w-eq0.true)
 
 pub returns-then-w-eq0 : goal.returns-then-w-eq0
 returns-then-w-eq0 c =
-    let b : At = c in
-    too_few (words b) (passed b) (known b) (few b) c.if-k-eq0.false (past c)
-
-pub has_form-requires : goal.has_form-requires
-has_form-requires c = tt
+    let text = c.args.text.now in
+    let k = c.loop-k.k in
+    too_few (words_of text) k c.loop-k.invariant.1.1 (omega arith) c.if-k-eq0.false (past text k _ c.word-w.ensures c.if-w-eq0.true)
 
 pub returns-then-not-has_form : goal.returns-then-not-has_form
 returns-then-not-has_form c =
-    let b : At = c in
-    no_number (words b) (passed b) (known b) (few b) (more c)
-    (formed c false c.if-not-has_form.true)
-
-pub in_range-requires : goal.in_range-requires
-in_range-requires c = tt
+    let text = c.args.text.now in
+    let k = c.loop-k.k in
+    no_number (words_of text) k c.loop-k.invariant.1.1 (omega arith) (more text k _ c.word-w.ensures c.if-w-eq0.false)
+    (formed text k _ _ false c.word-w.ensures c.has_form.ensures c.if-not-has_form.true)
 
 pub returns-then-not-in_range : goal.returns-then-not-in_range
 returns-then-not-in_range c =
-    let b : At = c in
-    out_of_range (words b) (passed b) (known b) (few b) (more c)
-    (formed c true c.if-not-has_form.false)
-    (ranged c false c.if-not-in_range.true)
-
-pub loop-k-smaller : goal.loop-k-smaller
-loop-k-smaller c = omega arith
+    let text = c.args.text.now in
+    let k = c.loop-k.k in
+    out_of_range (words_of text) k c.loop-k.invariant.1.1 (omega arith) (more text k _ c.word-w.ensures c.if-w-eq0.false)
+    (formed text k _ _ true c.word-w.ensures c.has_form.ensures c.if-not-has_form.false)
+    (ranged text k _ _ false c.word-w.ensures c.in_range.ensures c.if-not-in_range.true)
 
 pub loop-k-preserved : goal.loop-k-preserved
 loop-k-preserved c =
-    let b : At = c in
-    let r : in_range (passed b + 1) (word b) ≡ true = ranged c true c.if-not-in_range.false in (
+    let text = c.args.text.now in
+    let k = c.loop-k.k in
+    let r = ranged text k _ _ true c.word-w.ensures c.in_range.ensures c.if-not-in_range.false in (
       omega arith,
       (
-        below_more _ _ b.loop.invariant.1.0 r,
-        right (words b) (passed b) (known b) (few b) (more c)
-            (formed c true c.if-not-has_form.false)
+        below_more _ _ c.loop-k.invariant.1.0 r,
+        right (words_of text) k c.loop-k.invariant.1.1 (omega arith) (more text k _ c.word-w.ensures c.if-w-eq0.false)
+            (formed text k _ _ true c.word-w.ensures c.has_form.ensures c.if-not-has_form.false)
             r,
       ),
     )
-
-pub word-requires : goal.word-requires
-word-requires c = tt
 
 pub returns-then-word-gt0 : goal.returns-then-word-gt0
 returns-then-word-gt0 c =

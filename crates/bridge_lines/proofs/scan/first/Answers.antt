@@ -1,4 +1,4 @@
-use Rattle.std.proofs.Common.{◌≡◌, suc, ◌+◌, ◌-◌, sym, refl, ◌∙◌, arith}
+use Rattle.std.proofs.Common.{◌≡◌, suc, ◌+◌, sym, refl, ◌∙◌, arith}
 use Rattle.bridge_lines.specs.Kinds.{is_of}
 use Rattle.bridge_lines.proofs.Bytes.{stands, passed, none}
 use Rattle.bridge_lines.proofs.scan.first.Goals as goal
@@ -24,7 +24,6 @@ returns-then-is_of c = (
         (omega arith)
         (sym c.is_of.ensures ∙ c.if-is_of.true),
   ),
-
 )
 
 pub overflow_add-i : goal.overflow_add-i
@@ -60,5 +59,4 @@ returns c = (
         c.loop-i.i
         (omega arith),
   ),
-
 )

@@ -2,7 +2,6 @@
 use Rattle.std.proofs.Common.{◌≡◌, ◌+◌, ◌-◌, ◌≤◌, length, drop}
 use Rattle.bridge_lines.specs.Words.{before}
 use Rattle.bridge_lines.specs.Kinds.{is_of}
-use Rattle.bridge_lines.proofs.Bytes.{passed}
 use Rattle.bridge_lines.proofs.scan.first.Given as goal
 
 abbrev pub invariant-loop-i : goal.invariant-loop-i

@@ -1,4 +1,4 @@
-use Rattle.std.proofs.Common.{◌≡◌, ◌-◌, arith}
+use Rattle.std.proofs.Common.{◌≡◌, arith}
 use Rattle.bridge_lines.proofs.Split.{start, next, word_at}
 use Rattle.bridge_lines.proofs.scan.word.Goals as goal
 
@@ -35,7 +35,6 @@ loop-n-preserved c = (
         c.first-end.ensures.1
         c.first-at-in-loop-n.ensures.1,
   ),
-
 )
 
 pub first-end-requires-2 : goal.first-end-requires-2

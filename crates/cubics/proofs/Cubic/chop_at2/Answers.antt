@@ -1,7 +1,6 @@
 -- `cubics::Cubic::chop_at2` meets its contract. Assumes nothing.
 use Rattle.point.specs.Numbers.{flat}
 use Rattle.cubics.specs.Cubics.{cubic_chop}
-use Rattle.quad_roots.proofs.Asks.{nothing}
 use Rattle.cubics.proofs.Cubic.chop_at2.Goals as goal
 
 pub returns : goal.returns

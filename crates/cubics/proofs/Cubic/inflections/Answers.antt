@@ -1,6 +1,5 @@
 -- `cubics::Cubic::inflections` meets its contract. Assumes nothing.
 use Rattle.cubics.specs.Cubics.{cubic_inflections}
-use Rattle.quad_roots.proofs.Asks.{nothing}
 use Rattle.cubics.proofs.Cubic.inflections.Goals as goal
 
 pub returns : goal.returns
@@ -10,5 +9,5 @@ returns c =
     let x = c in
     let l = c in
     let a = c in
-    let crosses = rw (c.cross-3.ensures, c.cross-2.ensures, x.cross.ensures) at f.0 in
-    record { value = rw (x.leading-2.ensures, l.leading.ensures, a.minus-a.ensures) at crosses; inside = f.1.1 }
+    let crosses = rw (c.cross-3.ensures, c.cross-2.ensures, x.cross.ensures) at f.value in
+    record { value = rw (x.leading-2.ensures, l.leading.ensures, a.minus-a.ensures) at crosses; inside = f.inside }

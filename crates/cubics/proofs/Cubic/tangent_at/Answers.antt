@@ -1,6 +1,5 @@
 -- `cubics::Cubic::tangent_at` meets its contract. Assumes nothing.
 use Rattle.cubics.specs.Cubics.{cubic_tangent}
-use Rattle.quad_roots.proofs.Asks.{nothing}
 use Rattle.cubics.proofs.Cubic.tangent_at.Goals as goal
 
 pub returns-then-first-last : goal.returns-then-first-last

@@ -1,4 +1,4 @@
-use Rattle.std.proofs.Common.{◌≡◌, ℕ, ◌-◌, ◌<◌, List, map, length, get_or, set, refl, ap, ◌∙◌, arith, length-set}
+use Rattle.std.proofs.Common.{◌≡◌, ℕ, ◌<◌, List, map, length, get_or, set, refl, ap, ◌∙◌, arith, length-set}
 use lib.Seq.{paste-zero}
 use Rattle.date_table.specs.Table.{outside, date_in}
 use Rattle.date_table.proofs.Many.{inside_of, none-outside, paste_at, paste_next, paste_all}

@@ -1,4 +1,4 @@
-use Rattle.std.proofs.Common.{◌-◌, sym, ◌∙◌, arith}
+use Rattle.std.proofs.Common.{sym, ◌∙◌, arith}
 use Rattle.date_table.proofs.Many.{is_first, goes_on, is_none}
 use Rattle.date_table.proofs.lookup.first_outside.Goals as goal
 

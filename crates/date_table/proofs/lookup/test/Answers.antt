@@ -1,4 +1,4 @@
-use Rattle.std.proofs.Common.{◌+◌, ◌-◌, ◌<◌, ◌≤◌, true, false, length, sym, refl, ◌∙◌, arith}
+use Rattle.std.proofs.Common.{◌+◌, ◌<◌, ◌≤◌, length, sym, refl, ◌∙◌, arith}
 use Rattle.date_table.proofs.Pass.{too_large, none_large, rises_on, rises_start, rises_end, within_end, is_empty, is_odd, is_large, is_well, is_falling}
 use Rattle.date_table.proofs.lookup.test.Goals as goal
 

@@ -1,4 +1,4 @@
-use Rattle.std.proofs.Common.{◌≡◌, ℕ, suc, ◌+◌, ◌-◌, [], get_or, drop, set, sym, refl, ap, ◌∙◌, arith, length-set, drop_of_length-le, drop-cons}
+use Rattle.std.proofs.Common.{◌≡◌, ℕ, suc, ◌+◌, [], get_or, drop, set, sym, refl, ap, ◌∙◌, arith, length-set, drop_of_length-le, drop-cons}
 use lib.Seq.{sets}
 use Rattle.date_table.proofs.making.copy_into.Goals as goal
 

@@ -1,4 +1,4 @@
-use Rattle.std.proofs.Common.{◌≡◌, ℕ, ◌+◌, ◌-◌, length, get_or, set, sym, refl, ap, ◌∙◌, arith, length-set}
+use Rattle.std.proofs.Common.{◌≡◌, ℕ, ◌+◌, length, get_or, set, sym, refl, ap, ◌∙◌, arith, length-set}
 use lib.Ieee.{nan}
 use lib.Seq.{sets}
 use Rattle.date_table.specs.Whole.{whole_of}

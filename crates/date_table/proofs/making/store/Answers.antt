@@ -57,3 +57,6 @@ returns-in-Refused c =
     let whole = stored_refused s.args.level s.args.c s.args.table.now s.requires.depth s.requires.room t stored.store_tested.new.table stored.store_tested.result
     (ap rounded_of (points-are (goal.at.returns-in-Refused c).After-chop_into_quads_pow2)) stored.store_tested.ensures.value stored.store_tested.ensures.table c.in-Refused.why c.in-Refused.is in
     record { value = whole.0; table = whole.1 }
+
+pub slice_bounds-store_tested-end-2 : goal.slice_bounds-store_tested-end-2
+slice_bounds-store_tested-end-2 c = omega (arith, spans_most c.args.level c.requires.depth, c.spans-spans.ensures, c.chop_into_quads_pow2.auto.out)

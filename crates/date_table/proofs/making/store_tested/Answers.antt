@@ -1,3 +1,4 @@
+-- `store_tested` meets its contract: the numbers at the front of the buffer are the rounded ones. Assumes nothing.
 use Rattle.std.proofs.Common.{◌≡◌, ◌-◌, take, sym, ap, ◌∙◌}
 use lib.Seq.{sets}
 use Rattle.point.specs.Numbers.{points_of}
@@ -16,16 +17,15 @@ whole_is c =
     let into = c.round_into in
     in_front (rounded_of (points_of s.args.points.now)) into.new.out s.args.rounded.now s.args.n into.ensures s.requires.numbers s.requires.rounded_room
 
--- ?? clauses ['value', 'table']
 pub returns-in-Passed : goal.returns-in-Passed
 returns-in-Passed c =
-    let found = c in
-    let s = c in
-    let told = c.in-Passed.is in
-    let t = rounded_of (points_of s.args.points.now) in (
-      found.test-found.ensures ∙ ap check_of (whole_is (goal.at.returns-in-Passed c).After-test-found),
-      c.copy_into.ensures ∙ ap (sets s.args.table.now 0) (whole_is (goal.at.returns-in-Passed c).After-test-found) ∙ ap (λ (k : Check). stored_by k s.args.table.now t) (sym told),
-    )
+    let a = c.args in
+    let front = whole_is (goal.at.returns-in-Passed c).After-test-found in
+    let t = rounded_of (points_of a.points.now) in
+    record {
+      value = c.test-found.ensures ∙ ap check_of front;
+      table = c.copy_into.ensures ∙ ap (sets a.table.now 0) front ∙ ap (λ (k : Check). stored_by k a.table.now t) (sym c.in-Passed.is);
+    }
 
 pub returns-in_default : goal.returns-in_default
 returns-in_default c =

@@ -1,0 +1,10 @@
+-- `nyerdzumak::transforms::nz_transform_pre_translate` meets its contract, by those of `matrix` and `pre_translate`. Assumes nothing.
+use Rattle.nyerdzumak.proofs.Told.{stored, told}
+use Rattle.nyerdzumak.proofs.transforms.nz_transform_pre_translate.Goals as goal
+
+pub returns : goal.returns
+returns c =
+    rw (← c.matrix.ensures) (record {
+      out_after = stored _ _ c.give_told.ensures.out_after c.pre_translate.ensures;
+      rounded = told _ _ c.give_told.ensures.rounded c.pre_translate.ensures;
+    })
