@@ -68,7 +68,7 @@ refuse_level m short c t refused well =
 unfoldable pub level_answer : ℕ → Bool → Conic → Float → Level
 level_answer m short c t = refuse_level m short c t Refused (Pow2 (level_of m c t))
 
--- the answer, its number and its values; two answers that meet it are one (`one-chosen` of proofs/Unique)
+-- the answer, its number and its values; two answers that meet it are one (`one_chosen` of proofs/Unique)
 pub record Chosen (m : ℕ) (short : Bool) (c : Conic) (t : Float) (r : Level) : Type 0 where
   pub answer : r ≡ level_answer m short c t
   pub number : number_of_level r ≡ refuse_level m short c t number_of_refusal 0

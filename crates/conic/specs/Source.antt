@@ -24,7 +24,7 @@ refuse_source l refused well = cond (short_source l) (refused BufferTooShort) we
 unfoldable pub source_answer : List Float → Float → Rule → FromPoints
 source_answer l w u = refuse_source l Refused (Made (conic_of l w u))
 
--- the answer, its number and its values; two answers that meet it are one (`one-taken` of proofs/Unique)
+-- the answer, its number and its values; two answers that meet it are one (`one_taken` of proofs/Unique)
 pub record Taken (l : List Float) (w : Float) (u : Rule) (r : FromPoints) : Type 0 where
   pub answer : r ≡ source_answer l w u
   pub number : number_of_from_points r ≡ refuse_source l number_of_refusal 0

@@ -30,7 +30,7 @@ auto_answer c = refuse_auto c Refused (Quads (2 ^ auto_level c))
 unfoldable pub auto_points : Conic → List Float
 auto_points c = refuse_auto c (λ _. zeros) (flat (written chop_by_rule (auto_level c) c) ++ drop (room (auto_level c)) zeros)
 
--- the answer, its number and its values, and the points; two results that meet it are one (`one-computed` of proofs/Unique)
+-- the answer, its number and its values, and the points; two results that meet it are one (`one_computed` of proofs/Unique)
 pub record Computed (c : Conic) (r : AutoConicToQuads) : Type 0 where
   pub answer : r.answer ≡ auto_answer c
   pub number : number_of_cut r.answer ≡ refuse_auto c number_of_refusal 0

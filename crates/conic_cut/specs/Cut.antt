@@ -62,7 +62,7 @@ abbrev pub values_of_cut : Cut → List ℕ
 values_of_cut (Quads q) = q ∷ []
 values_of_cut (Refused r) = values_of_refusal r
 
--- the answer, its number and its values, and the buffer at exit; two that meet it are one (`one-cut` of proofs/Unique)
+-- the answer, its number and its values, and the buffer at exit; two that meet it are one (`one_cut` of proofs/Unique)
 pub record CutInto (f : Conic → Halves) (n : ℕ) (c : Conic) (short : Bool) (l : List Float) (r : Cut) (l₁ : List Float) : Type 0 where
   pub answer : r ≡ cut_answer n (length l) short
   pub number : number_of_cut r ≡ refuse_cut n (length l) short number_of_refusal 0

@@ -67,7 +67,7 @@ made_answer n len short c = refuse_made n len short c Refused (Entries (2 ^ n + 
 unfoldable pub made_table : ℕ → Conic → Bool → List ℕ → List ℕ
 made_table n c short l = refuse_made n (length l) short c (λ _. l) (rounded_of (cut_of n c) ++ drop (table_room n) l)
 
--- the answer, its number and its values, and the table at exit; two that meet it are one (`one-made` of proofs/Unique)
+-- the answer, its number and its values, and the table at exit; two that meet it are one (`one_made` of proofs/Unique)
 pub record MadeInto (n : ℕ) (c : Conic) (short : Bool) (l : List ℕ) (r : Made) (l₁ : List ℕ) : Type 0 where
   pub answer : r ≡ made_answer n (length l) short c
   pub number : number_of_made r ≡ refuse_made n (length l) short c number_of_refusal 0

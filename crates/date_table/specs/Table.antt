@@ -95,7 +95,7 @@ refuse_time l r refused well = refuse_table l refused (cond (outside l r) (refus
 unfoldable pub date_of : List ℕ → ℕ → Dated
 date_of l r = refuse_time l r D.Refused (D.Date (date_in l r))
 
--- the answer, its number and its values; two that meet it are one (`one-date` of proofs/Unique)
+-- the answer, its number and its values; two that meet it are one (`one_date` of proofs/Unique)
 pub record DatedAt (l : List ℕ) (r : ℕ) (d : Dated) : Type 0 where
   pub answer : d ≡ date_of l r
   pub number : number_of_dated d ≡ refuse_time l r number_of_refusal 0

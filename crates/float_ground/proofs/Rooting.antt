@@ -1,5 +1,5 @@
 -- The law of a root from whole numbers, over the format: half of g, and behind it the nearest whole number to the root of the digits, is
--- the pattern of the root that `rootOf` computes. Assumes nothing.
+-- the pattern of the root that `root_of` computes. Assumes nothing.
 use mathlib.Core.Path.{◌≡◌, refl, sym, ap, ◌∙◌}
 use mathlib.Core.Logic.{◌⊎◌, inl, inr}
 use mathlib.Core.Bool.{Bool, true, false, not, cond}

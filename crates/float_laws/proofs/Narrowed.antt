@@ -1,4 +1,4 @@
--- Laws over a format, on `roundTo`, and so on `narrowOf`: its result fits, it leaves what fits as it is, it commutes with negation, and
+-- Laws over a format, on `round_to`, and so on `narrow_of`: its result fits, it leaves what fits as it is, it commutes with negation, and
 -- it keeps order. Assumes nothing.
 use mathlib.Core.Path.{◌≡◌, refl, sym, ap, ◌∙◌, subst}
 use mathlib.Core.Bool.{Bool, true, false, not, cond}

@@ -1,4 +1,4 @@
--- The root of a whole number n as `rootAt` computes it, in whole numbers and over the format: twice the true root lies strictly between
+-- The root of a whole number n as `root_at` computes it, in whole numbers and over the format: twice the true root lies strictly between
 -- the sums of the result and any other value on either side of it. Assumes nothing.
 use mathlib.Core.Path.{◌≡◌, sym, ap, ◌∙◌, subst}
 use mathlib.Core.Logic.{◌⊎◌, inl, inr}

@@ -1,5 +1,5 @@
 -- Laws over a format, on bit patterns. `packs`: the pattern of a sign, an exponent field k and digits q is read as q * 2 ^ k smallest
--- values, an infinity past the largest; q may reach 2 ^ prec, where the carry goes into the field. `plain-bits`, `plain-pattern`: which
+-- values, an infinity past the largest; q may reach 2 ^ prec, where the carry goes into the field. `plain-bits`, `plain_pattern`: which
 -- patterns are no NaN. Assumes nothing.
 use mathlib.Core.Path.{◌≡◌, refl, sym, ap, ◌∙◌, subst}
 use mathlib.Core.Logic.{◌⊎◌, inl, inr}

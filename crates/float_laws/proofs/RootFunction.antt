@@ -1,4 +1,4 @@
--- The root that a program finds, by its digits q, is that of the function `rootAt`, over the format. Assumes nothing.
+-- The root that a program finds, by its digits q, is that of the function `root_at`, over the format. Assumes nothing.
 use mathlib.Core.Path.{◌≡◌, sym, ap, ◌∙◌, subst}
 use mathlib.Core.Logic.{◌⊎◌, inl, inr}
 use mathlib.Core.Bool.{Bool, true, false, not, cond, true≢false}

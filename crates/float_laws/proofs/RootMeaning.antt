@@ -1,4 +1,4 @@
--- `rootOf` has the meaning of a square root, for every value that the format holds; and whatever has that meaning is `rootOf`. Over the
+-- `root_of` has the meaning of a square root, for every value that the format holds; and whatever has that meaning is `root_of`. Over the
 -- format. Assumes nothing.
 use mathlib.Core.Path.{◌≡◌, refl, sym, ap, ◌∙◌, subst}
 use mathlib.Core.Bool.{Bool, true, false, cond}
@@ -217,7 +217,7 @@ weaken f x r G s =
       from_above = λ y F p l. le_of_lt (s.from_above y F p l);
     }
 
--- every value that fits has the root that `rootOf` computes
+-- every value that fits has the root that `root_of` computes
 pub nearest-root : (f : Format) (x : Float) → T (fits f x) → Root f x (root_of f x)
 unfolding Root root_of
 nearest-root f nan F = refl
@@ -229,7 +229,7 @@ nearest-root f (fin false (suc m) e) F =
     let x = fin false (suc m) e in
     weaken f x (root_of f x) (root-fits f x F) (strict_root f m e F)
 
--- what equals `rootOf` is the root, and has its meaning
+-- what equals `root_of` is the root, and has its meaning
 pub both : (f : Format) (x r : Float) → T (fits f x) → r ≡ root_of f x → (r ≡ root_of f x) × Root f x r
 both f x r F e = (e, subst (Root f x) (sym e) (nearest-root f x F))
 
@@ -266,7 +266,7 @@ alone f x r s F R S =
     s_counted : T (counted s)
     s_counted = positive-counted s S.above_zero
 
--- whatever has the meaning of x's root is the one that `rootOf` computes
+-- whatever has the meaning of x's root is the one that `root_of` computes
 pub root_alone : (f : Format) (x r : Float) → T (fits f x) → Root f x r → r ≡ root_of f x
 unfolding Root root_of
 root_alone f nan r F h = h

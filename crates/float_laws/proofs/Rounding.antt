@@ -1,5 +1,5 @@
 -- Laws over a format, on rounding. `round_by`: what `round` gives, by the number k of digits that it drops. `rounds`: the same of M * 2 ^
--- j / 2 ^ L. `shift-closest`: a number shifted down and rounded, as a program does it. Assumes nothing.
+-- j / 2 ^ L. `shift_closest`: a number shifted down and rounded, as a program does it. Assumes nothing.
 use mathlib.Core.Path.{◌≡◌, refl, sym, ap, ◌∙◌, subst}
 use mathlib.Core.Logic.{◌⊎◌, inl, inr}
 use Prim.Native.Nat.{ℕ, zero, suc, ◌+◌, ◌-◌, ◌*◌, ◌/◌, ◌%◌, ◌^◌, ◌≤◌, ◌<◌, compare, Ordering}

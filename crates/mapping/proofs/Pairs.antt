@@ -1,5 +1,5 @@
--- A list of numbers that is mapped in place, two at a time: `mapPairs l` is l with f applied to each two numbers, and `mapFrom i l` from i on.
--- Of whole points, that is the numbers of the mapped points (`whole-points`). Assumes nothing.
+-- A list of numbers that is mapped in place, two at a time: `map_pairs l` is l with f applied to each two numbers, and `map_from i l` from i on.
+-- Of whole points, that is the numbers of the mapped points (`whole_points`). Assumes nothing.
 use mathlib.Core.Path.{◌≡◌, refl, ap}
 use mathlib.Core.List.{List, [], ◌∷◌, map}
 use Prim.Native.Nat.{ℕ, zero, suc, ◌+◌, ◌%◌, ◌≤◌, ◌<◌}

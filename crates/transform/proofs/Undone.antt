@@ -1,4 +1,4 @@
--- The branches of `invert`, each as `invertOf` has it: what does not skew narrows nothing, and what skews goes by its determinant. Assumes
+-- The branches of `invert`, each as `invert_of` has it: what does not skew narrows nothing, and what skews goes by its determinant. Assumes
 -- nothing.
 use mathlib.Core.Path.{◌≡◌, refl}
 use mathlib.Core.Bool.{Bool, true, false, not, cond, ◌&&◌, ◌||◌, beq, true≢false, false≢true}

@@ -71,7 +71,7 @@ skewed_inverse t inv-det =
     (dscale_of (dcross_of t.kx t.ty t.sy t.tx) inv-det)
     (dscale_of (dcross_of t.ky t.tx t.sx t.ty) inv-det)
 
--- ---- which numbers are narrowed on the way: without skew none; with it the determinant, for its test, and those of `skewedInverse`,
+-- ---- which numbers are narrowed on the way: without skew none; with it the determinant, for its test, and those of `skewed_inverse`,
 -- in its order
 abbrev pub skewed_scaled : Transform → Float → List Float
 skewed_scaled t inv-det =

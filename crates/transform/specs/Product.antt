@@ -37,7 +37,7 @@ unfoldable pub concat_of : Transform → Transform → Transform
 concat_of a b = cond (is_identity a) b (cond (is_identity b) a (product_of a b))
 
 -- ---- which numbers are narrowed on the way
--- those of `skewedProduct`, in its order
+-- those of `skewed_product`, in its order
 abbrev pub skewed_sums : Transform → Transform → List Float
 skewed_sums a b =
     mul_add a.sx b.sx a.kx b.ky

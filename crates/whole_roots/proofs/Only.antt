@@ -1,4 +1,4 @@
--- There is one whole root and one nearest whole number, and they are what `entry_of` and `nearestRoot` compute. Assumes nothing.
+-- There is one whole root and one nearest whole number, and they are what `entry_of` and `nearest_root` compute. Assumes nothing.
 use mathlib.Core.Path.{◌≡◌, sym, ap, ◌∙◌, subst}
 use mathlib.Core.Bool.{Bool, true, false, not, cond}
 use Prim.Native.Nat.{ℕ, zero, suc, ◌+◌, ◌-◌, ◌*◌, ◌≤◌, ◌<◌}

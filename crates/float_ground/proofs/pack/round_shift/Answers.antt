@@ -1,4 +1,4 @@
--- `float_ground::pack::round_shift` meets its contract: the sum fits 61 bits, and `shift-closest` says what it is. Assumes nothing.
+-- `float_ground::pack::round_shift` meets its contract: the sum fits 61 bits, and `shift_closest` says what it is. Assumes nothing.
 use mathlib.Core.Path.{◌≡◌, subst}
 use Prim.Native.Nat.{ℕ, suc, ◌+◌, ◌-◌, ◌*◌, ◌/◌, ◌%◌, ◌^◌, ◌<◌}
 use native.Mathlib.Omega.{arith}
