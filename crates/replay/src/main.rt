@@ -3,6 +3,7 @@
 // named part of the list, how many of how many were the same.
 #![tactic(auto)]
 
+mod calls;
 mod of_buffers;
 mod of_conics;
 mod of_ground;

@@ -1,99 +1,97 @@
 // A record of the list: 80 bytes, which are 20 words of 32 bits, the lowest byte first. Word 0 names the call, words 1
 // to 12 are the floats of its input, 13 and 14 its double, 15 and 16 its lengths, 17 its level or ceiling, and words 18 and 19
 // the sums over what the original gave. A record whose word 0 is 2^32 - 1 has the name of those that follow.
+ghost use Rattle.std.specs.Prelude.{◌+◌, ◌<◌, ◌≤◌};
 
-fn joined(a: u8, b: u8, c: u8, d: u8) -> u32 {
-    (a as u32) + (b as u32) * 256 + (c as u32) * 65536 + (d as u32) * 16777216
+use super::sum::Sum;
+use std::io;
+use std::io::{ErrorKind, Read};
+
+#[derive(Clone, Copy)]
+pub struct Record {
+    bytes: [u8; 80],
 }
 
-// Word k of a record.
-pub fn word_at(r: &[u8; 80], k: usize) -> u32 {
-    if k > 19 {
-        return 0;
+impl Record {
+    // The next record of a list; none where fewer bytes than a record's are left.
+    pub fn read<R: Read>(input: &mut R) -> io::Result<Option<Record>> {
+        let mut bytes = [0u8; 80];
+        match input.read_exact(&mut bytes) {
+            Ok(()) => Ok(Some(Record { bytes })),
+            Err(e) => {
+                if e.kind() == ErrorKind::UnexpectedEof {
+                    Ok(None)
+                } else {
+                    Err(e)
+                }
+            }
+        }
     }
-    let i = 4 * k;
-    joined(r[i], r[i + 1], r[i + 2], r[i + 3])
-}
 
-// Word k as a length.
-pub fn length_at(r: &[u8; 80], k: usize) -> usize {
-    word_at(r, k) as usize
-}
-
-// Words k and k + 1 as one number, the lower first.
-pub fn pair_at(r: &[u8; 80], k: usize) -> u64 {
-    if k > 18 {
-        return 0;
+    // Word k.
+    pub fn word(&self, k: usize) -> u32
+        requires { k < 20 }
+    {
+        let at = 4 * k;
+        u32::from_le_bytes([
+            self.bytes[at],
+            self.bytes[at + 1],
+            self.bytes[at + 2],
+            self.bytes[at + 3],
+        ])
     }
-    (word_at(r, k) as u64) + (word_at(r, k + 1) as u64) * 4294967296
-}
 
-fn from_word(b: u32) -> f32 {
-    if b % 0x8000_0000 > 0x7f80_0000 {
-        return 0.0 / 0.0;
+    // Word k as a length.
+    pub fn length(&self, k: usize) -> usize
+        requires { k < 20 }
+    {
+        self.word(k) as usize
     }
-    f32::from_bits(b)
-}
 
-// The double of a pattern, every NaN as one.
-pub fn from_pair(b: u64) -> f64 {
-    if b % 0x8000_0000_0000_0000 > 0x7ff0_0000_0000_0000 {
-        return 0.0 / 0.0;
+    // Word k as a float, every NaN as one.
+    pub fn float(&self, k: usize) -> f32
+        requires { k < 20 }
+    {
+        std::num::f32_from_bits_with_nan(self.word(k))
     }
-    f64::from_bits(b)
-}
 
-// Word k of a record as a float.
-pub fn float_at(r: &[u8; 80], k: usize) -> f32 {
-    from_word(word_at(r, k))
-}
-
-// The first six floats of a record.
-pub fn first(r: &[u8; 80]) -> [f32; 6] {
-    [
-        float_at(r, 1),
-        float_at(r, 2),
-        float_at(r, 3),
-        float_at(r, 4),
-        float_at(r, 5),
-        float_at(r, 6),
-    ]
-}
-
-// The last six.
-pub fn second(r: &[u8; 80]) -> [f32; 6] {
-    [
-        float_at(r, 7),
-        float_at(r, 8),
-        float_at(r, 9),
-        float_at(r, 10),
-        float_at(r, 11),
-        float_at(r, 12),
-    ]
-}
-
-// All twelve.
-pub fn floats(r: &[u8; 80]) -> [f32; 12] {
-    [
-        float_at(r, 1),
-        float_at(r, 2),
-        float_at(r, 3),
-        float_at(r, 4),
-        float_at(r, 5),
-        float_at(r, 6),
-        float_at(r, 7),
-        float_at(r, 8),
-        float_at(r, 9),
-        float_at(r, 10),
-        float_at(r, 11),
-        float_at(r, 12),
-    ]
-}
-
-// The first n of the numbers, or all where there are fewer.
-pub fn front(f: &[f32], n: usize) -> &[f32] {
-    if n > f.len() {
-        return f;
+    // Its double, every NaN as one.
+    pub fn double(&self) -> f64 {
+        let low = self.word(13) as u64;
+        let high = self.word(14) as u64;
+        std::num::f64_from_bits_with_nan(low + high * 4294967296)
     }
-    &f[0..n]
+
+    // As many floats, from word k on.
+    pub fn floats<const N: usize>(&self, k: usize) -> [f32; N]
+        requires { k + N ≤ 20 }
+    {
+        let mut all = [0.0f32; N];
+        for i in 0..N {
+            all[i] = self.float(k + i);
+        }
+        all
+    }
+
+    // What the original gave.
+    pub fn given(&self) -> Sum {
+        Sum {
+            low: self.word(18),
+            high: self.word(19),
+        }
+    }
+
+    // Whether it names those that follow.
+    pub fn is_title(&self) -> bool {
+        self.word(0) == 0xffff_ffff
+    }
+
+    // That name: the bytes from the second word up to an end.
+    pub fn title(&self) -> &[u8] {
+        let end = self.length(19);
+        if (4 <= end) & (end <= 80) {
+            return &self.bytes[4..end];
+        }
+        &[]
+    }
 }
