@@ -1,71 +1,56 @@
 // The figures of roots and quads.
-use super::print;
-use quad_roots::{Divided, Roots};
-use quads::{Curvature, PointAt};
+use super::shown::{At, Bits, Refused};
+use quad_roots::Roots;
 use std::io;
 
-fn divide(rt: &impl Print, name: &str, numer: f32, denom: f32) -> io::Result<()> {
-    print::text(rt, name)?;
+fn divide(rt: &impl Print, numer: f32, denom: f32, name: &str) -> io::Result<()> {
     match quad_roots::valid_unit_divide(numer, denom) {
-        Divided::None => print::text(rt, " none")?,
-        Divided::One(r) => print::number(rt, r)?,
+        None => println!(rt; "unit divide {name}: none"),
+        Some(r) => println!(rt; "unit divide {name}: {}", Bits(r)),
     }
-    print::end(rt)
 }
 
-fn roots(rt: &impl Print, name: &str, a: f32, b: f32, c: f32) -> io::Result<()> {
-    print::text(rt, name)?;
+fn roots(rt: &impl Print, a: f32, b: f32, c: f32, name: &str) -> io::Result<()> {
     match quad_roots::find_unit_quad_roots(a, b, c) {
-        Roots::None => print::text(rt, " none")?,
-        Roots::One(r) => print::number(rt, r)?,
-        Roots::Two(r, s) => {
-            print::number(rt, r)?;
-            print::number(rt, s)?;
-        }
+        Roots::None => println!(rt; "roots of {name}: none"),
+        Roots::One(r) => println!(rt; "roots of {name}: {}", Bits(r)),
+        Roots::Two(r, s) => println!(rt; "roots of {name}: {} {}", Bits(r), Bits(s)),
     }
-    print::end(rt)
 }
 
 // The parameter of the maximum curvature and the point there, or the refusal's number.
 fn curvature(rt: &impl Print, name: &str, src: &[f32]) -> io::Result<()> {
-    print::text(rt, name)?;
-    let answer = quads::find_quad_max_curvature(src);
-    if let Curvature::At(t) = answer {
-        print::number(rt, t)?;
-        point(rt, quads::eval_quad_at(src, t))?;
-    } else {
-        print::refusal(rt, answer.number())?;
+    print!(rt; "max curvature of {name}: ")?;
+    match quads::find_quad_max_curvature(src) {
+        Ok(t) => {
+            print!(rt; "{} ", Bits(t))?;
+            point(rt, src, t)
+        }
+        Err(why) => println!(rt; "{}", Refused(why)),
     }
-    print::end(rt)
 }
 
-fn point(rt: &impl Print, answer: PointAt) -> io::Result<()> {
-    if let PointAt::At(p) = answer {
-        print::number(rt, p.x)?;
-        print::number(rt, p.y)
-    } else {
-        print::refusal(rt, answer.number())
+fn point(rt: &impl Print, src: &[f32], t: f32) -> io::Result<()> {
+    match quads::eval_quad_at(src, t) {
+        Ok(p) => println!(rt; "{}", At(p)),
+        Err(why) => println!(rt; "{}", Refused(why)),
     }
 }
 
 pub fn show(rt: &impl Print) -> io::Result<()> {
-    divide(rt, "unit divide 1, 2:", 1.0, 2.0)?;
-    divide(rt, "unit divide -1, -2:", -1.0, -2.0)?;
-    divide(rt, "unit divide 2, 2:", 2.0, 2.0)?;
-    divide(rt, "unit divide 0, 1:", 0.0, 1.0)?;
-    divide(rt, "unit divide 1, -2:", 1.0, -2.0)?;
-    roots(rt, "roots of 8, -6, 1:", 8.0, -6.0, 1.0)?;
-    roots(rt, "roots of 4, -4, 1:", 4.0, -4.0, 1.0)?;
-    roots(rt, "roots of 0, 4, -1:", 0.0, 4.0, -1.0)?;
-    roots(rt, "roots of 1, 0, 1:", 1.0, 0.0, 1.0)?;
-    roots(rt, "roots of 0, 0, 1:", 0.0, 0.0, 1.0)?;
+    divide(rt, 1.0, 2.0, "1, 2")?;
+    divide(rt, -1.0, -2.0, "-1, -2")?;
+    divide(rt, 2.0, 2.0, "2, 2")?;
+    divide(rt, 0.0, 1.0, "0, 1")?;
+    divide(rt, 1.0, -2.0, "1, -2")?;
+    roots(rt, 8.0, -6.0, 1.0, "8, -6, 1")?;
+    roots(rt, 4.0, -4.0, 1.0, "4, -4, 1")?;
+    roots(rt, 0.0, 4.0, -1.0, "0, 4, -1")?;
+    roots(rt, 1.0, 0.0, 1.0, "1, 0, 1")?;
+    roots(rt, 0.0, 0.0, 1.0, "0, 0, 1")?;
     let src = [0.0, 0.0, 1.0, 1.0, 2.0, 0.0];
-    curvature(
-        rt,
-        "max curvature of (0,0) (1,1) (2,0), and the point there:",
-        &src,
-    )?;
+    curvature(rt, "(0,0) (1,1) (2,0), and the point there", &src)?;
     let far = 1.2676506002282294e30; // 2^100
     let src = [0.0, 0.0, far, far, 4.0 * far, 0.0];
-    curvature(rt, "max curvature of (0,0) (2^100,2^100) (2^102,0):", &src)
+    curvature(rt, "(0,0) (2^100,2^100) (2^102,0)", &src)
 }

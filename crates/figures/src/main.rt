@@ -5,7 +5,7 @@ mod conics;
 mod curves;
 mod dates;
 mod ground;
-mod print;
+mod shown;
 mod transforms;
 
 use std::io;

@@ -1,60 +1,31 @@
 // The figures of the transforms.
-use super::print;
+use super::shown::{At, Bits, Told};
+use answers::Numbered;
 use point::Point;
 use std::io;
-use transform::{Computed, Inversion, Transform};
-
-fn six(rt: &impl Print, ts: Transform) -> io::Result<()> {
-    print::number(rt, ts.sx)?;
-    print::number(rt, ts.ky)?;
-    print::number(rt, ts.kx)?;
-    print::number(rt, ts.sy)?;
-    print::number(rt, ts.tx)?;
-    print::number(rt, ts.ty)
-}
-
-// The six numbers, and whether a narrowing was not exact.
-fn told(rt: &impl Print, c: Computed) -> io::Result<()> {
-    six(rt, c.transform)?;
-    if c.rounded {
-        print::text(rt, " rounded")?;
-    }
-    Ok(())
-}
+use transform::Transform;
 
 fn product(rt: &impl Print, name: &str, a: Transform, b: Transform) -> io::Result<()> {
-    print::text(rt, name)?;
-    told(rt, a.pre_concat(b))?;
-    print::end(rt)
+    println!(rt; "{name} {}", Told(a.pre_concat(b)))
 }
 
 fn mapped(rt: &impl Print, name: &str, ts: Transform, p: Point) -> io::Result<()> {
-    let q = ts.map_point(p);
-    print::text(rt, name)?;
-    print::number(rt, q.x)?;
-    print::number(rt, q.y)?;
-    print::end(rt)
+    println!(rt; "{name} {}", At(ts.map_point(p)))
 }
 
 // The answer's number, then the buffer.
 fn mapped_numbers(rt: &impl Print, name: &str, ts: Transform, x: f32, y: f32) -> io::Result<()> {
     let mut numbers = [x, y];
-    print::text(rt, name)?;
-    print::count(rt, mapping::map_numbers(ts, &mut numbers).number() as u64)?;
-    print::number(rt, numbers[0])?;
-    print::number(rt, numbers[1])?;
-    print::end(rt)
+    let number = answers::number(mapping::map_numbers(ts, &mut numbers));
+    println!(rt; "{name} {number} {} {}", Bits(numbers[0]), Bits(numbers[1]))
 }
 
 // The answer's number, then the six numbers of the inverse in the order of `from_row`.
 fn inverted(rt: &impl Print, name: &str, ts: Transform) -> io::Result<()> {
-    print::text(rt, name)?;
-    let answer = ts.invert();
-    print::count(rt, answer.number() as u64)?;
-    if let Inversion::Inverted(inverse) = answer {
-        told(rt, inverse)?;
+    match ts.invert() {
+        Ok(inverse) => println!(rt; "{name} 0 {}", Told(inverse)),
+        Err(why) => println!(rt; "{name} {}", why.number()),
     }
-    print::end(rt)
 }
 
 fn mappings(rt: &impl Print) -> io::Result<()> {

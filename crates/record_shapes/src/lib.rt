@@ -12,27 +12,24 @@ use point::Point;
 use records::{ConicBits, TransformBits};
 use transform::Transform;
 
-// The float of a pattern. `from_bits` is undefined at a NaN's, so each of those gives the same NaN here.
+// The float of a pattern; each NaN's gives the same NaN.
 pub fn float_of_bits(b: u32) -> f32
     ensures { result ≡ of_bits binary32 b }
 {
-    if b % 0x8000_0000 > 0x7f80_0000 {
-        return 0.0 / 0.0;
-    }
-    f32::from_bits(b)
+    std::num::f32_from_bits_with_nan(b)
 }
 
-// The pattern of a float. `to_bits` is undefined at a NaN, which has the quiet NaN's pattern here.
+// The pattern of a float; NaN has the quiet one's.
 pub fn bits_of_float(x: f32) -> u32
     ensures { result ≡ to_bits binary32 x }
 {
-    if x != x {
-        return 0x7fc0_0000;
-    }
-    f32::to_bits(x)
+    std::num::f32_to_bits_with_nan(x)
 }
 
+// These four are functions and not `From`: both types of each are other crates'.
+
 // The conic of these bits, by the exact rule.
+#[tactic(auto, unfolding(crate::specs::Bits::conic_of_bits))]
 pub fn conic_of_bits(b: ConicBits) -> Conic
     ensures { result ≡ conic_of_bits b }
 {
@@ -53,6 +50,7 @@ pub fn conic_of_bits(b: ConicBits) -> Conic
 }
 
 // The bits of a conic, whatever its rule, which is left out.
+#[tactic(auto, unfolding(crate::specs::Bits::bits_of_conic))]
 pub fn bits_of_conic(c: Conic) -> ConicBits
     ensures { result ≡ bits_of_conic c }
 {
@@ -68,6 +66,7 @@ pub fn bits_of_conic(c: Conic) -> ConicBits
 }
 
 // The transform of these bits.
+#[tactic(auto, unfolding(crate::specs::Bits::transform_of_bits))]
 pub fn transform_of_bits(b: TransformBits) -> Transform
     ensures { result ≡ transform_of_bits b }
 {
@@ -82,6 +81,7 @@ pub fn transform_of_bits(b: TransformBits) -> Transform
 }
 
 // The bits of a transform.
+#[tactic(auto, unfolding(crate::specs::Bits::bits_of_transform))]
 pub fn bits_of_transform(t: Transform) -> TransformBits
     ensures { result ≡ bits_of_transform t }
 {

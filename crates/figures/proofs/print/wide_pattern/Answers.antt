@@ -1,5 +1,0 @@
-use Rattle.float_laws.proofs.Sign.{equals_itself}
-use Rattle.figures.proofs.print.wide_pattern.Goals as goal
-
-pub float_to_bits-result : goal.float_to_bits-result
-float_to_bits-result c = equals_itself c.args.x c.if-x.false
