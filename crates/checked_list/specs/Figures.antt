@@ -1,5 +1,5 @@
 -- The figures that docs/RULES.md, "Figures", marks for the checked list, floats by their patterns, and what it is for one to hold. Definitions only.
-use Rattle.std.specs.Prelude.{ℕ, ◌≡◌, Bool, true, false, List, [], ◌∷◌, Float}
+use Rattle.std.specs.Prelude.{ℕ, ◌≡◌, Bool, true, false, List, [], ◌∷◌, Ok, Float}
 use Rattle.std.specs.Float.{Format, binary32, binary64}
 use Rattle.std.specs.Float.Ieee.{of_bits, to_bits}
 use Rattle.float_laws.specs.Absolute.{abs_of}
@@ -15,7 +15,7 @@ use Rattle.conic.specs.declared.ruling.Test.{Test}
 use Rattle.conic.specs.declared.ruling.Test.TheVariants as By
 use Rattle.conic.specs.Between.{passes}
 use Rattle.conic.specs.Chop.{conic_from, chop_by_rule}
-use Rattle.conic_cut.specs.declared.Cut.TheVariants.{Quads}
+
 use Rattle.point.specs.Numbers.{flat}
 use Rattle.conic_cut.specs.Cut.{all_finite, plain, written, room, cut_answer, number_of_cut}
 
@@ -56,9 +56,9 @@ Holds (absolute x r) = to_bits binary32 (abs_of (of_bits binary32 x)) ≡ r
 Holds (roots a b c l) = bits (values_of_roots (roots_of (of_bits binary32 a) (of_bits binary32 b) (of_bits binary32 c))) ≡ l
 Holds (between t a b c answer) = passes t (of_bits binary32 a) (of_bits binary32 b) (of_bits binary32 c) ≡ answer
 Holds (cut u w n quads whole l) =
-    (cut_answer n (room n) false ≡ Quads quads)
+    (cut_answer n (room n) false ≡ Ok quads)
     × ((all_finite (plain chop_by_rule n (corner w u)) ≡ whole) × (bits (flat (written chop_by_rule n (corner w u))) ≡ l))
-Holds (answered n len quads) = cut_answer n len false ≡ Quads quads
+Holds (answered n len quads) = cut_answer n len false ≡ Ok quads
 Holds (refused n len number) = number_of_cut (cut_answer n len false) ≡ number
 
 abbrev pub AllHold : List Figure → Type 0

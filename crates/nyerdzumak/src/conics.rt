@@ -4,7 +4,7 @@ ghost use Rattle.conic.specs.declared.Rule.TheVariants.{Product, Exact, BothAxes
 ghost use Rattle.conic.specs.Between.{product_test, exact_test};
 ghost use Rattle.conic.specs.Chop.{chop_of, chop_by_rule};
 ghost use Rattle.conic.specs.Level.{refuse_level, level_of};
-ghost use Rattle.conic.specs.Refusal.{number_of_refusal, values_of_refusal, number_of_level, values_of_level};
+ghost use Rattle.conic.specs.Refusal.{number_of_refusal, values_of_refusal};
 ghost use Rattle.conic.specs.Rule.{X, Y};
 ghost use Rattle.conic.specs.Source.{conic_of, short_source, refuse_source};
 ghost use Rattle.conic_cut.specs.Auto.{auto_points};
@@ -13,8 +13,8 @@ ghost use Rattle.conic_cut.specs.Order.{OrderAlong};
 ghost use Rattle.nyerdzumak.specs.Given.{first_or, filled_or, points_or, auto_from};
 ghost use Rattle.nyerdzumak.specs.Lent.{half_numbers};
 
-use conic::{Conic, FromPoints, Level, Rule};
-use conic_cut::{AutoConicToQuads, Cut};
+use conic::{Conic, Halves, Refusal, Rule};
+use conic_cut::AutoConicToQuads;
 
 // The crate's between test: whether (a - b) * (c - b) is at most 0, as it is computed.
 pub fn nz_between_product(a: f32, b: f32, c: f32) -> bool
@@ -30,12 +30,11 @@ pub fn nz_between_exact(a: f32, b: f32, c: f32) -> bool
     conic::between_exact(a, b, c)
 }
 
-// Stores both halves of a conic, seven numbers each.
-fn give_halves(c: Conic, halves: &mut [f32; 14])
-    ensures { halves.new ≡ half_numbers (chop_of c) }
+// Both halves, seven numbers each.
+fn numbers(h: Halves) -> [f32; 14]
+    ensures { result ≡ half_numbers h }
 {
-    let h = c.chop();
-    *halves = [
+    [
         h.first.p0.x,
         h.first.p0.y,
         h.first.p1.x,
@@ -50,7 +49,15 @@ fn give_halves(c: Conic, halves: &mut [f32; 14])
         h.second.p2.x,
         h.second.p2.y,
         h.second.weight,
-    ];
+    ]
+}
+
+// The halves of a lent conic.
+fn halved(src: &[f32], weight: f32) -> Result<[f32; 14], Refusal>
+    ensures { result ≡ refuse_source src.now Err (Ok (half_numbers (chop_of (conic_of src.now weight Product)))) }
+{
+    let c = Conic::from_points(src, weight, Rule::Product)?;
+    Ok(numbers(c.chop()))
 }
 
 // Halves a conic as the formulas say, with no correction, so that a rule has no part in it: x and y of three points and a
@@ -60,30 +67,7 @@ pub fn nz_conic_chop(src: &[f32], weight: f32, halves: &mut [f32; 14]) -> u32
     ensures halves { halves.new ≡ filled_or halves.old
         (refuse_source src.now values_of_refusal (half_numbers (chop_of (conic_of src.now weight Product)))) }
 {
-    let answer = Conic::from_points(src, weight, Rule::Product);
-    let number = answer.number();
-    match answer {
-        FromPoints::Made(c) => {
-            give_halves(c, halves);
-            number
-        }
-        FromPoints::Refused(_) => number,
-    }
-}
-
-// Stores a level, if there is one; and the answer's number.
-fn give_level(answer: Level, level: &mut u32) -> u32
-    ensures value { result ≡ number_of_level answer }
-    ensures level { level.new ≡ first_or level.old (values_of_level answer) }
-{
-    let number = answer.number();
-    match answer {
-        Level::Pow2(n) => {
-            *level = n;
-            number
-        }
-        Level::Refused(_) => number,
-    }
+    answers::give(halved(src, weight), halves)
 }
 
 // The least level, from 1 on, at which the estimated distance of the quads from the conic is within the tolerance; at most the
@@ -100,10 +84,8 @@ pub fn nz_conic_compute_quad_pow2(
         (refuse_level ceiling (short_source src.now) (conic_of src.now weight Product) tolerance values_of_refusal
         (level_of ceiling (conic_of src.now weight Product) tolerance ∷ [])) }
 {
-    give_level(
-        Conic::compute_quad_pow2_from(src, weight, tolerance, ceiling),
-        level,
-    )
+    let chosen = Conic::compute_quad_pow2_from(src, weight, tolerance, ceiling);
+    answers::give(chosen, level)
 }
 
 // Cuts a conic into 2^level quads by the crate's own between test.
@@ -112,7 +94,8 @@ pub fn nz_conic_chop_into_quads_pow2(src: &[f32], weight: f32, level: u32, out: 
     ensures buffer { out.new ≡ cut_buffer chop_by_rule level (conic_of src.now weight Product)
         (short_source src.now) out.old }
 {
-    conic_cut::chop_into_quads_pow2_from(out, src, weight, Rule::Product, level).number()
+    let cut = conic_cut::chop_into_quads_pow2_from(out, src, weight, Rule::Product, level);
+    answers::number(cut)
 }
 
 // The same by the exact between test. From three finite points whose middle y lies between the end ys or equals one, the
@@ -125,7 +108,8 @@ pub fn nz_cut_in_order(src: &[f32], weight: f32, level: u32, out: &mut [f32]) ->
     ensures order { 6 ≤ length src.now → OrderAlong Y level (conic_of src.now weight Exact) out.old
         out.new }
 {
-    conic_cut::chop_into_quads_pow2_from(out, src, weight, Rule::Exact, level).number()
+    let cut = conic_cut::chop_into_quads_pow2_from(out, src, weight, Rule::Exact, level);
+    answers::number(cut)
 }
 
 // The same, and the xs are kept in order as the ys are. From three finite points the xs along the written points keep one
@@ -139,26 +123,21 @@ pub fn nz_cut_in_order_both(src: &[f32], weight: f32, level: u32, out: &mut [f32
     ensures order_y { 6 ≤ length src.now → OrderAlong Y level (conic_of src.now weight BothAxes) out.old
         out.new }
 {
-    conic_cut::chop_into_quads_pow2_from(out, src, weight, Rule::BothAxes, level).number()
+    let cut = conic_cut::chop_into_quads_pow2_from(out, src, weight, Rule::BothAxes, level);
+    answers::number(cut)
 }
 
-// Stores a cut and how many quads it has, if there is one; and the answer's number.
-fn give_cut(cut: AutoConicToQuads, out: &mut [f32; 128], quads: &mut usize) -> u32
-    ensures value { result ≡ number_of_cut cut.answer }
-    ensures out { out.new ≡ points_or out.old cut.answer cut.points }
-    ensures quads { quads.new ≡ first_or quads.old (values_of_cut cut.answer) }
+// Stores the crate's own cut of a lent conic, if there is one; and how many quads it has.
+fn auto(src: &[f32], weight: f32, out: &mut [f32; 128]) -> Result<usize, Refusal>
+    ensures value { result ≡ auto_from src.now weight }
+    ensures out { out.new ≡ points_or out.old (auto_from src.now weight)
+        (auto_points (conic_of src.now weight Product)) }
 {
-    let answer = cut.answer;
-    let points = cut.points;
-    let number = answer.number();
-    match answer {
-        Cut::Quads(n) => {
-            *out = points;
-            *quads = n;
-            number
-        }
-        Cut::Refused(_) => number,
-    }
+    let c = Conic::from_points(src, weight, Rule::Product)?;
+    let cut = AutoConicToQuads::compute(c.p0, c.p1, c.p2, c.weight);
+    let quads = cut.answer?;
+    *out = cut.points;
+    Ok(quads)
 }
 
 // The crate's own choice: the cut by its own between test at the level that a tolerance of a quarter chooses, by its own
@@ -174,12 +153,6 @@ pub fn nz_auto_conic_to_quads(
         (auto_points (conic_of src.now weight Product)) }
     ensures quads { quads.new ≡ first_or quads.old (values_of_cut (auto_from src.now weight)) }
 {
-    match Conic::from_points(src, weight, Rule::Product) {
-        FromPoints::Made(c) => give_cut(
-            AutoConicToQuads::compute(c.p0, c.p1, c.p2, c.weight),
-            out,
-            quads,
-        ),
-        FromPoints::Refused(why) => why.number(),
-    }
+    let cut = auto(src, weight, out);
+    answers::give(cut, quads)
 }

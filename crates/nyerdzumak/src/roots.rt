@@ -6,8 +6,9 @@ ghost use Rattle.quads.specs.Quads.{quad_extrema};
 ghost use Rattle.cubics.specs.Cubics.{cubic_extrema, number_of_inflections, values_of_inflections, inflections_answer, inflections_number};
 ghost use Rattle.nyerdzumak.specs.Given.{first_or, count_or};
 
-use cubics::Inflections;
-use quad_roots::{Divided, Roots};
+use answers::Numbered;
+use cubics::Refusal;
+use quad_roots::Roots;
 
 // Stores what was found, and says how many.
 fn give(found: Roots, roots: &mut [f32; 2]) -> u32
@@ -30,16 +31,15 @@ fn give(found: Roots, roots: &mut [f32; 2]) -> u32
 }
 
 // The same of one root or none.
-fn give_one(found: Divided, root: &mut f32) -> u32
+fn give_one(found: Option<f32>, root: &mut f32) -> u32
     ensures value { result ≡ length (values_of_divided found) }
     ensures root { root.new ≡ first_or root.old (values_of_divided found) }
 {
-    let count = found.count();
     match found {
-        Divided::None => count,
-        Divided::One(r) => {
+        None => 0,
+        Some(r) => {
             *root = r;
-            count
+            1
         }
     }
 }
@@ -77,30 +77,17 @@ pub fn nz_find_cubic_extrema(a: f32, b: f32, c: f32, d: f32, roots: &mut [f32; 2
 }
 
 // Stores what was found and how many, unless it is a refusal; and the answer's number.
-fn give_inflections(found: Inflections, roots: &mut [f32; 2], count: &mut u32) -> u32
+fn give_inflections(found: Result<Roots, Refusal>, roots: &mut [f32; 2], count: &mut u32) -> u32
     ensures value { result ≡ number_of_inflections found }
     ensures roots { roots.new ≡ sets roots.old 0 (values_of_inflections found) }
     ensures count { count.new ≡ count_or count.old found }
 {
-    let number = found.number();
-    let n = found.count();
     match found {
-        Inflections::None => {
-            *count = n;
-            number
+        Ok(places) => {
+            *count = give(places, roots);
+            0
         }
-        Inflections::One(r) => {
-            roots[0] = r;
-            *count = n;
-            number
-        }
-        Inflections::Two(r, s) => {
-            roots[0] = r;
-            roots[1] = s;
-            *count = n;
-            number
-        }
-        Inflections::BufferTooShort => number,
+        Err(why) => why.number(),
     }
 }
 

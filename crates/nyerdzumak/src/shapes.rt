@@ -1,26 +1,26 @@
 // The calls on quads and cubics: lent numbers, x and y of each point, 6 for a quad and 8 for a cubic.
 ghost use Rattle.std.specs.Prelude.{◌≡◌};
-ghost use Rattle.quads.specs.Answers.{number_of_point, values_of_point, number_of_curvature, values_of_curvature};
+ghost use Rattle.quads.specs.Answers.{number_of_point, values_of_point};
 ghost use Rattle.quads.specs.Answers.{eval_number, eval_values, chop_number, chop_buffer};
 ghost use Rattle.quads.specs.Quads.{quad_of, quad_at, quad_tangent, quad_chop, curvature_number, curvature_values};
 ghost use Rattle.cubics.specs.Cubics.{cubic_of, cubic_at, cubic_tangent, cubic_chop};
 ghost use Rattle.nyerdzumak.specs.Given.{first_or, filled_or};
 
-use quads::{Curvature, PointAt};
+use answers::Numbered;
+use point::Point;
+use quads::Refusal;
 
 // Stores a point, if there is one; and the answer's number.
-fn give(answer: PointAt, out: &mut [f32; 2]) -> u32
+fn give(answer: Result<Point, Refusal>, out: &mut [f32; 2]) -> u32
     ensures value { result ≡ number_of_point answer }
     ensures out { out.new ≡ filled_or out.old (values_of_point answer) }
 {
-    let number = answer.number();
     match answer {
-        PointAt::At(p) => {
+        Ok(p) => {
             *out = [p.x, p.y];
-            number
+            0
         }
-        PointAt::OutOfRange => number,
-        PointAt::BufferTooShort => number,
+        Err(why) => why.number(),
     }
 }
 
@@ -65,7 +65,7 @@ pub fn nz_chop_quad_at(src: &[f32], t: f32, dst: &mut [f32]) -> u32
     ensures value { result ≡ chop_number 6 10 t src.now dst.old }
     ensures buffer { dst.new ≡ chop_buffer 6 10 t src.now dst.old (quad_chop (quad_of src.now) t) }
 {
-    quads::chop_quad_at(src, t, dst).number()
+    answers::number(quads::chop_quad_at(src, t, dst))
 }
 
 // Cuts a cubic at t, and stores the seven points of the two cubics.
@@ -73,23 +73,7 @@ pub fn nz_chop_cubic_at2(src: &[f32], t: f32, dst: &mut [f32]) -> u32
     ensures value { result ≡ chop_number 8 14 t src.now dst.old }
     ensures buffer { dst.new ≡ chop_buffer 8 14 t src.now dst.old (cubic_chop (cubic_of src.now) t) }
 {
-    cubics::chop_cubic_at2(src, t, dst).number()
-}
-
-// Stores where the curvature is greatest, if that is a number; and the answer's number.
-fn give_curvature(answer: Curvature, t: &mut f32) -> u32
-    ensures value { result ≡ number_of_curvature answer }
-    ensures t { t.new ≡ first_or t.old (values_of_curvature answer) }
-{
-    let number = answer.number();
-    match answer {
-        Curvature::At(u) => {
-            *t = u;
-            number
-        }
-        Curvature::Undefined => number,
-        Curvature::BufferTooShort => number,
-    }
+    answers::number(cubics::chop_cubic_at2(src, t, dst))
 }
 
 // Where the curvature of a quad is greatest: 0, 1, or a quotient.
@@ -97,5 +81,5 @@ pub fn nz_find_quad_max_curvature(src: &[f32], t: &mut f32) -> u32
     ensures value { result ≡ curvature_number src.now }
     ensures t { t.new ≡ first_or t.old (curvature_values src.now) }
 {
-    give_curvature(quads::find_quad_max_curvature(src), t)
+    answers::give(quads::find_quad_max_curvature(src), t)
 }

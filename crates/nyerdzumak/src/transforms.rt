@@ -10,8 +10,9 @@ ghost use Rattle.mapping.specs.Numbers.{mapping_number, mapped_numbers};
 ghost use Rattle.nyerdzumak.specs.Lent.{matrix_of};
 ghost use Rattle.nyerdzumak.specs.Given.{first_or, filled_or};
 
+use answers::Numbered;
 use point::Point;
-use transform::{Computed, Inversion, Transform};
+use transform::{Computed, Refusal, Transform};
 
 pub(crate) fn matrix(m: &[f32; 6]) -> Transform
     ensures { result ≡ matrix_of m.now }
@@ -136,19 +137,17 @@ pub fn nz_transform_post_translate(
 }
 
 // Stores an inverse and its flag, if there is one; and the answer's number.
-fn give_inverse(answer: Inversion, out: &mut [f32; 6], rounded: &mut bool) -> u32
+fn give_inverse(answer: Result<Computed, Refusal>, out: &mut [f32; 6], rounded: &mut bool) -> u32
     ensures value { result ≡ number_of_inversion answer }
     ensures out { out.new ≡ filled_or out.old (values_of_inversion answer) }
     ensures rounded { rounded.new ≡ first_or rounded.old (flags_of_inversion answer) }
 {
-    let number = answer.number();
     match answer {
-        Inversion::Inverted(c) => {
-            give_told(c, out, rounded);
-            number
+        Ok(inverse) => {
+            give_told(inverse, out, rounded);
+            0
         }
-        Inversion::NearlySingular => number,
-        Inversion::NotFinite => number,
+        Err(why) => why.number(),
     }
 }
 
@@ -177,5 +176,5 @@ pub fn nz_transform_map_numbers(m: &[f32; 6], numbers: &mut [f32]) -> u32
     ensures value { result ≡ mapping_number numbers.old }
     ensures buffer { numbers.new ≡ mapped_numbers (matrix_of m.now) numbers.old }
 {
-    mapping::map_numbers(matrix(m), numbers).number()
+    answers::number(mapping::map_numbers(matrix(m), numbers))
 }
