@@ -1,18 +1,19 @@
 -- What the contracts of the cubic's calls cite: the Rust's formulas, operation by operation (docs/RULES.md, "Quads and cubics"). Definitions only.
-use Rattle.std.specs.Prelude.{ℕ, cond, ◌&&◌, ◌||◌, List, [], ◌∷◌, Float}
+use Rattle.std.specs.Prelude.{ℕ, ◌<◌, cond, ◌&&◌, ◌||◌, List, [], ◌∷◌, Float, Result, Ok, Err}
+use Rattle.std.proofs.Common.{lit<}
 use Rattle.std.specs.Float.Ieee.{eq}
+use Rattle.answers.specs.Answers.{number_of}
 use Rattle.float_laws.specs.Formula.{◌⊕◌, ◌⊖◌, ◌⊗◌, zero32, one32, two32, three32}
 use Rattle.point.specs.declared.Point.{Point}
 use Rattle.point.specs.Numbers.{flat, point_at}
 use Rattle.point.specs.Point.{point_from}
 use Rattle.quad_roots.specs.declared.Roots.{Roots}
-use Rattle.quad_roots.specs.declared.Roots.TheVariants as R
-use Rattle.quad_roots.specs.Roots.{roots_of}
+use Rattle.quad_roots.specs.Roots.{roots_of, values_of_roots}
 use Rattle.quads.specs.Answers.{short_pick}
 use Rattle.quads.specs.Steps.{times2, square_at, same, minus, interp}
 use Rattle.cubics.specs.declared.Cubic.{Cubic}
-use Rattle.cubics.specs.declared.Inflections.{Inflections}
-use Rattle.cubics.specs.declared.Inflections.TheVariants.{None, One, Two, BufferTooShort}
+use Rattle.cubics.specs.declared.Refusal.{Refusal}
+use Rattle.cubics.specs.declared.Refusal.TheVariants.{BufferTooShort}
 
 abbrev pub cubic_of : List Float → Cubic
 cubic_of l = record { p0 = point_at l 0; p1 = point_at l 2; p2 = point_at l 4; p3 = point_at l 6 }
@@ -74,25 +75,21 @@ cubic_inflections q =
     roots_of (cross b c) (cross a c) (cross a b)
 
 -- the answer's number and values (docs/RULES.md, "Answer numbers" and "Roots"): no root is an answer, not a refusal
-abbrev pub number_of_inflections : Inflections → ℕ
-number_of_inflections None = 0
-number_of_inflections (One t) = 0
-number_of_inflections (Two t u) = 0
-number_of_inflections BufferTooShort = 2
+abbrev pub number_of_refusal : Refusal → ℕ
+number_of_refusal BufferTooShort = 2
 
-abbrev pub values_of_inflections : Inflections → List Float
-values_of_inflections None = []
-values_of_inflections (One t) = t ∷ []
-values_of_inflections (Two t u) = t ∷ u ∷ []
-values_of_inflections BufferTooShort = []
+pub refusal_numbers : (why : Refusal) → 0 < number_of_refusal why
+refusal_numbers BufferTooShort = lit< tt
 
-abbrev pub inflections_of : Roots → Inflections
-inflections_of R.None = None
-inflections_of (R.One t) = One t
-inflections_of (R.Two t u) = Two t u
+abbrev pub number_of_inflections : Result Roots Refusal → ℕ
+number_of_inflections = number_of number_of_refusal
 
-abbrev pub inflections_answer : List Float → Inflections
-inflections_answer l = short_pick 8 l BufferTooShort (inflections_of (cubic_inflections (cubic_of l)))
+abbrev pub values_of_inflections : Result Roots Refusal → List Float
+values_of_inflections (Ok roots) = values_of_roots roots
+values_of_inflections (Err why) = []
+
+abbrev pub inflections_answer : List Float → Result Roots Refusal
+inflections_answer l = short_pick 8 l (Err BufferTooShort) (Ok (cubic_inflections (cubic_of l)))
 
 abbrev pub inflections_number : List Float → ℕ
-inflections_number l = short_pick 8 l (number_of_inflections BufferTooShort) 0
+inflections_number l = short_pick 8 l (number_of_refusal BufferTooShort) 0

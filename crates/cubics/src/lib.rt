@@ -2,15 +2,17 @@
 // Carried over from `path_geometry.rs` of tiny-skia-path 0.12.0.
 #![tactic(auto)]
 
-ghost use Rattle.std.specs.Prelude.{◌≡◌, ◌≤◌, length};
+ghost use Rattle.std.specs.Prelude.{◌≡◌, Ok, Err};
 ghost use Rattle.quad_roots.specs.Roots.{number_of_roots, values_of_roots, Rising};
-ghost use Rattle.quads.specs.Answers.{number_of_point, values_of_point, eval_number, eval_answer, eval_values};
+ghost use Rattle.quads.specs.declared.Refusal.TheVariants as Q;
+ghost use Rattle.quads.specs.Answers.{number_of_point, values_of_point, short_pick, eval_number, eval_answer, eval_values};
 ghost use Rattle.quads.specs.Answers.{number_of_chop, chop_number, chop_answer, chop_buffer};
 ghost use Rattle.cubics.specs.Cubics as C;
 
+use answers::Numbered;
 use point::Point;
 use quad_roots::Roots;
-use quads::{Chopped, PointAt, lent, steps};
+use quads::{lent, steps};
 
 #[derive(Clone, Copy)]
 pub struct Cubic {
@@ -20,37 +22,20 @@ pub struct Cubic {
     pub p3: Point,
 }
 
-// What the search for inflections answers.
-#[derive(Clone, Copy)]
-pub enum Inflections {
-    None,
-    One(f32),
-    Two(f32, f32),
+// Why the inflections are not given.
+#[derive(Clone, Copy, Debug, PartialEq, Eq)]
+pub enum Refusal {
     BufferTooShort,
 }
 
-impl Inflections {
-    // Its number in docs/RULES.md, "Answer numbers".
-    pub fn number(self) -> u32
-        ensures { result ≡ C.number_of_inflections self }
-    {
-        match self {
-            Inflections::None => 0,
-            Inflections::One(_) => 0,
-            Inflections::Two(_, _) => 0,
-            Inflections::BufferTooShort => 2,
-        }
-    }
+impl Numbered for Refusal {
+    ghost number_of = { C.number_of_refusal };
 
-    // How many there are; a refusal has none.
-    pub fn count(self) -> u32
-        ensures { result ≡ length (C.values_of_inflections self) }
-    {
+    ghost above_zero = { C.refusal_numbers };
+
+    fn number(self) -> u32 {
         match self {
-            Inflections::None => 0,
-            Inflections::One(_) => 1,
-            Inflections::Two(_, _) => 2,
-            Inflections::BufferTooShort => 0,
+            Refusal::BufferTooShort => 2,
         }
     }
 }
@@ -90,6 +75,7 @@ fn cross(p: Point, q: Point) -> f32
 
 impl Cubic {
     // The point at t.
+    #[tactic(auto, unfolding(crate::specs::Cubics::cubic_at))]
     fn at(self, t: f32) -> Point
         ensures { result ≡ C.cubic_at self t }
     {
@@ -100,33 +86,36 @@ impl Cubic {
     }
 
     // From the start to the control point after its own, or from the one before its own to the end.
+    #[tactic(auto, unfolding(crate::specs::Cubics::next_control))]
     fn next_control(self, t: f32) -> Point
         ensures { result ≡ C.next_control self t }
     {
         if t == 0.0 {
-            steps::minus(self.p2, self.p0)
+            self.p2 - self.p0
         } else {
-            steps::minus(self.p3, self.p1)
+            self.p3 - self.p1
         }
     }
 
     // The tangent at an end whose control point coincides with it: by the next control point, else the chord.
+    #[tactic(auto, unfolding(crate::specs::Cubics::end_tangent))]
     fn end_tangent(self, t: f32) -> Point
         ensures { result ≡ C.end_tangent self t }
     {
         let tangent = self.next_control(t);
-        if (tangent.x == 0.0) & (tangent.y == 0.0) {
-            return steps::minus(self.p3, self.p0);
+        if tangent == Point::zero() {
+            return self.p3 - self.p0;
         }
         tangent
     }
 
     // A third of the derivative at t; at an end whose control point coincides with it, its own tangent.
+    #[tactic(auto, unfolding(crate::specs::Cubics::cubic_tangent))]
     fn tangent_at(self, t: f32) -> Point
         ensures { result ≡ C.cubic_tangent self t }
     {
-        let first = (t == 0.0) & steps::same(self.p0, self.p1);
-        let last = (t == 1.0) & steps::same(self.p2, self.p3);
+        let first = (t == 0.0) & (self.p0 == self.p1);
+        let last = (t == 1.0) & (self.p2 == self.p3);
         if first | last {
             return self.end_tangent(t);
         }
@@ -137,6 +126,7 @@ impl Cubic {
     }
 
     // The seven points of the two cubics that meet at t.
+    #[tactic(auto, unfolding(crate::specs::Cubics::cubic_chop, point::specs::Numbers::flat))]
     fn chop_at2(self, t: f32) -> [f32; 14]
         ensures { result ≡ C.cubic_chop self t }
     {
@@ -153,11 +143,12 @@ impl Cubic {
     }
 
     // Where the curvature is zero.
+    #[tactic(auto, unfolding(crate::specs::Cubics::cubic_inflections))]
     fn inflections(self) -> Roots
         ensures value { result ≡ C.cubic_inflections self }
         ensures inside { Rising (values_of_roots result) }
     {
-        let a = steps::minus(self.p1, self.p0);
+        let a = self.p1 - self.p0;
         let b = Point {
             x: self.p2.x - 2.0 * self.p1.x + self.p0.x,
             y: self.p2.y - 2.0 * self.p1.y + self.p0.y,
@@ -170,12 +161,14 @@ impl Cubic {
     }
 }
 
-// The cubic of eight lent numbers.
-fn cubic_of(src: &[f32]) -> Cubic
-    requires { 8 ≤ length src.now }
-    ensures { result ≡ C.cubic_of src.now }
+// The cubic of eight lent numbers, if there are so many.
+fn cubic_of(src: &[f32]) -> Result<Cubic, quads::Refusal>
+    ensures { result ≡ short_pick 8 src.now (Err Q.BufferTooShort) (Ok (C.cubic_of src.now)) }
 {
-    Cubic {
+    if src.len() < 8 {
+        return Err(quads::Refusal::BufferTooShort);
+    }
+    Ok(Cubic {
         p0: Point {
             x: src[0],
             y: src[1],
@@ -192,53 +185,38 @@ fn cubic_of(src: &[f32]) -> Cubic
             x: src[6],
             y: src[7],
         },
-    }
+    })
 }
 
 // The point at t.
-pub fn eval_cubic_pos_at(src: &[f32], t: f32) -> PointAt
+pub fn eval_cubic_pos_at(src: &[f32], t: f32) -> Result<Point, quads::Refusal>
     ensures value { result ≡ eval_answer 8 t src.now (C.cubic_at (C.cubic_of src.now) t) }
     ensures number { number_of_point result ≡ eval_number 8 t src.now }
     ensures values { values_of_point result ≡ eval_values 8 t src.now (C.cubic_at (C.cubic_of src.now) t) }
 {
-    if steps::outside_unit(t) {
-        return PointAt::OutOfRange;
-    }
-    if src.len() < 8 {
-        return PointAt::BufferTooShort;
-    }
-    PointAt::At(cubic_of(src).at(t))
+    steps::in_unit(t)?;
+    Ok(cubic_of(src)?.at(t))
 }
 
 // The tangent at t, a third as long as the derivative; at an end whose control point coincides with it,
 // towards the next control point, or else the chord.
-pub fn eval_cubic_tangent_at(src: &[f32], t: f32) -> PointAt
+pub fn eval_cubic_tangent_at(src: &[f32], t: f32) -> Result<Point, quads::Refusal>
     ensures value { result ≡ eval_answer 8 t src.now (C.cubic_tangent (C.cubic_of src.now) t) }
     ensures number { number_of_point result ≡ eval_number 8 t src.now }
     ensures values { values_of_point result ≡ eval_values 8 t src.now (C.cubic_tangent (C.cubic_of src.now) t) }
 {
-    if steps::outside_unit(t) {
-        return PointAt::OutOfRange;
-    }
-    if src.len() < 8 {
-        return PointAt::BufferTooShort;
-    }
-    PointAt::At(cubic_of(src).tangent_at(t))
+    steps::in_unit(t)?;
+    Ok(cubic_of(src)?.tangent_at(t))
 }
 
 // Cuts at t, and stores the seven points of the two cubics.
-pub fn chop_cubic_at2(src: &[f32], t: f32, dst: &mut [f32]) -> Chopped
+pub fn chop_cubic_at2(src: &[f32], t: f32, dst: &mut [f32]) -> Result<(), quads::Refusal>
     ensures value { result ≡ chop_answer 8 14 t src.now dst.old }
     ensures buffer { dst.new ≡ chop_buffer 8 14 t src.now dst.old (C.cubic_chop (C.cubic_of src.now) t) }
     ensures number { number_of_chop result ≡ chop_number 8 14 t src.now dst.old }
 {
-    if steps::outside_open_unit(t) {
-        return Chopped::OutOfRange;
-    }
-    if src.len() < 8 {
-        return Chopped::BufferTooShort;
-    }
-    let new = cubic_of(src).chop_at2(t);
+    steps::in_open_unit(t)?;
+    let new = cubic_of(src)?.chop_at2(t);
     lent::store(dst, &new)
 }
 
@@ -250,31 +228,17 @@ pub fn find_cubic_extrema(a: f32, b: f32, c: f32, d: f32) -> Roots
 {
     let aa = d - a + 3.0 * (b - c);
     let bb = 2.0 * (a - b - b + c);
-    let roots = quad_roots::find_unit_quad_roots(aa, bb, b - a);
-    if let Roots::One(t) = roots {
-        return Roots::One(t);
-    }
-    let Roots::Two(t, u) = roots else {
-        return Roots::None;
-    };
-    Roots::Two(t, u)
+    quad_roots::find_unit_quad_roots(aa, bb, b - a)
 }
 
 // Where the curvature is zero.
-pub fn find_cubic_inflections(src: &[f32]) -> Inflections
+pub fn find_cubic_inflections(src: &[f32]) -> Result<Roots, Refusal>
     ensures value { result ≡ C.inflections_answer src.now }
     ensures number { C.number_of_inflections result ≡ C.inflections_number src.now }
     ensures inside { Rising (C.values_of_inflections result) }
 {
-    if src.len() < 8 {
-        return Inflections::BufferTooShort;
-    }
-    let roots = cubic_of(src).inflections();
-    if let Roots::One(t) = roots {
-        return Inflections::One(t);
-    }
-    let Roots::Two(t, u) = roots else {
-        return Inflections::None;
+    let Ok(cubic) = cubic_of(src) else {
+        return Err(Refusal::BufferTooShort);
     };
-    Inflections::Two(t, u)
+    Ok(cubic.inflections())
 }

@@ -2,10 +2,13 @@
 #![tactic(auto)]
 
 ghost use Rattle.std.specs.Prelude.{◌≡◌};
-ghost use Rattle.float_laws.specs.Formula.{zero32};
+ghost use Rattle.float_laws.specs.Formula.{◌⊖◌, zero32};
 ghost use Rattle.point.specs.Point.{point_finite, point_from};
 
-#[derive(Clone, Copy)]
+use std::ops::Sub;
+
+// Equal as floats are: NaN equals nothing, and -0 equals 0.
+#[derive(Clone, Copy, PartialEq)]
 pub struct Point {
     pub x: f32,
     pub y: f32,
@@ -31,5 +34,19 @@ impl Point {
         ensures { result ≡ point_finite self }
     {
         float_ground::is_finite_f32(self.x * self.y)
+    }
+}
+
+// The vector from `rhs` to `self`.
+impl Sub for Point {
+    type Output = Point;
+
+    ghost sub_gives = { λ p q r. r ≡ point_from (p.x ⊖ q.x) (p.y ⊖ q.y) };
+
+    fn sub(self, rhs: Point) -> Point {
+        Point {
+            x: self.x - rhs.x,
+            y: self.y - rhs.y,
+        }
     }
 }

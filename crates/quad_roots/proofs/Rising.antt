@@ -7,22 +7,21 @@ use lib.Ieee.Fits.{and_l, and_r}
 use lib.Ieee.Scale.{finite}
 use Rattle.float_laws.proofs.Apart.{apart}
 use Rattle.float_laws.proofs.Order.{finite_between, or_left}
-use Rattle.float_laws.specs.Formula.{◌⊘◌, zero32, one32, zero64}
-use Rattle.quad_roots.specs.declared.Divided.{Divided}
-use Rattle.quad_roots.specs.declared.Divided.TheVariants as D
+use Rattle.float_laws.specs.Formula.{◌⊘◌, zero32, one32}
+use Rattle.std.specs.Prelude.{Option, Some, None}
 use Rattle.quad_roots.specs.declared.Roots.{Roots}
-use Rattle.quad_roots.specs.declared.Roots.TheVariants.{None, One, Two}
-use Rattle.quad_roots.specs.Roots.{inside, quotient_of, divided_of, two_roots, collected, discriminant_of, root_of_discriminant, q_of, roots_of}
+use Rattle.quad_roots.specs.declared.Roots.TheVariants as R
+use Rattle.quad_roots.specs.Roots.{inside, quotient_of, divided_of, two_roots, collected}
 use Rattle.quad_roots.specs.Roots.{values_of_divided, values_of_roots, Rising}
 
-abbrev Inside : Divided → Type 0
+abbrev Inside : Option Float → Type 0
 Inside x = Rising (values_of_divided x)
 
 abbrev Good : Roots → Type 0
 Good x = Rising (values_of_roots x)
 
 -- a quotient is kept where it is inside
-kept : (t u : Bool) (r : Float) → (T u → T (inside r)) → Inside (cond t D.None (cond u (D.One r) D.None))
+kept : (t u : Bool) (r : Float) → (T u → T (inside r)) → Inside (cond t None (cond u (Some r) None))
 kept true u r h = tt
 kept false true r h = h tt
 kept false false r h = tt
@@ -30,7 +29,7 @@ kept false false r h = tt
 quotient_rising : (n d : Float) → Inside (quotient_of n d)
 quotient_rising n d = kept (eq d zero32 || eq n zero32 || le d n) (inside (n ⊘ d)) (n ⊘ d) (λ t. t)
 
-either : (t : Bool) (x y : Divided) → Inside x → Inside y → Inside (cond t x y)
+either : (t : Bool) (x y : Option Float) → Inside x → Inside y → Inside (cond t x y)
 either true x y p q = p
 either false x y p q = q
 
@@ -50,32 +49,15 @@ two_rising : (r s : Float) → T (inside r) → T (inside s) → Good (two_roots
 unfolding two_roots
 two_rising r s p q = go (lt s r) (eq r s) refl refl
   where
-    go : (t u : Bool) → lt s r ≡ t → eq r s ≡ u → Good (cond t (Two s r) (cond u (One r) (Two r s)))
+    go : (t u : Bool) → lt s r ≡ t → eq r s ≡ u → Good (cond t (R.Two s r) (cond u (R.One r) (R.Two r s)))
     go true u m e = (q, subst T (sym m) tt, p)
     go false true m e = p
     go false false m e = (p, apart r s (inside-finite r p) (inside-finite s q) m e, q)
 
-collected-rising : (x y : Divided) → Inside x → Inside y → Good (collected x y)
+pub collected_rising : {x : Roots} (p q : Option Float) → x ≡ collected p q
+    → Rising (values_of_divided p) → Rising (values_of_divided q) → Rising (values_of_roots x)
 unfolding collected
-collected-rising D.None D.None p q = tt
-collected-rising D.None (D.One s) p q = q
-collected-rising (D.One r) D.None p q = p
-collected-rising (D.One r) (D.One s) p q = two_rising r s p q
-
-answered : (t u v : Bool) (x y : Roots) → Good x → Good y → Good (cond t x (cond u None (cond v y None)))
-answered true u v x y p q = p
-answered false true v x y p q = tt
-answered false false true x y p q = q
-answered false false false x y p q = tt
-
-pub roots_rising : (a b c : Float) → Rising (values_of_roots (roots_of a b c))
-unfolding roots_of
-roots_rising a b c =
-    let dr = discriminant_of a b c in
-    let r = root_of_discriminant dr in
-    let q = q_of b r in
-    let one = collected (divided_of (neg c) b) D.None in
-    let both = collected (divided_of q a) (divided_of c q) in
-    answered (eq a zero32) (lt dr zero64) (finite r) one both
-    (collected-rising (divided_of (neg c) b) D.None (divided_rising (neg c) b) tt)
-    (collected-rising (divided_of q a) (divided_of c q) (divided_rising q a) (divided_rising c q))
+collected_rising None None e p q = rw e tt
+collected_rising None (Some s) e p q = rw e q
+collected_rising (Some r) None e p q = rw e p
+collected_rising (Some r) (Some s) e p q = rw e (two_rising r s p q)

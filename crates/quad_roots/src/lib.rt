@@ -5,33 +5,7 @@
 ghost use Rattle.std.specs.Prelude.{◌≡◌, length};
 ghost use Rattle.quad_roots.specs.Roots as R;
 
-use float_ground::{Narrowed, is_finite_f32, narrow, sqrt_f64, widen};
-
-// A quotient strictly between 0 and 1, if it is one.
-#[derive(Clone, Copy)]
-pub enum Divided {
-    None,
-    One(f32),
-}
-
-impl Divided {
-    // Its number in docs/RULES.md, "Answer numbers".
-    pub fn number(self) -> u32
-        ensures { result ≡ R.number_of_divided self }
-    {
-        0 // no quotient is an answer, not a refusal
-    }
-
-    // How many roots there are.
-    pub fn count(self) -> u32
-        ensures { result ≡ length (R.values_of_divided self) }
-    {
-        match self {
-            Divided::None => 0,
-            Divided::One(_) => 1,
-        }
-    }
-}
+use float_ground::{is_finite_f32, narrow, sqrt_f64, widen};
 
 // The roots strictly between 0 and 1; two are strictly increasing.
 #[derive(Clone, Copy)]
@@ -42,13 +16,6 @@ pub enum Roots {
 }
 
 impl Roots {
-    // Its number in docs/RULES.md, "Answer numbers".
-    pub fn number(self) -> u32
-        ensures { result ≡ R.number_of_roots self }
-    {
-        0 // no root is an answer, not a refusal
-    }
-
     // How many roots there are.
     pub fn count(self) -> u32
         ensures { result ≡ length (R.values_of_roots self) }
@@ -62,22 +29,19 @@ impl Roots {
 }
 
 // numer / denom where numer is not below 0, if it lies strictly between 0 and 1.
-fn unit_divide(numer: f32, denom: f32) -> Divided
+fn unit_divide(numer: f32, denom: f32) -> Option<f32>
     ensures { result ≡ R.quotient_of numer denom }
 {
     if (denom == 0.0) | (numer == 0.0) | (numer >= denom) {
-        return Divided::None;
+        return None;
     }
     let r = numer / denom;
-    if (r > 0.0) & (r < 1.0) {
-        Divided::One(r)
-    } else {
-        Divided::None
-    }
+    if (r > 0.0) & (r < 1.0) { Some(r) } else { None }
 }
 
 // numer / denom, if it lies strictly between 0 and 1.
-pub fn valid_unit_divide(numer: f32, denom: f32) -> Divided
+#[tactic(auto, using(crate::proofs::Rising::divided_rising), unfolding(crate::specs::Roots::divided_of))]
+pub fn valid_unit_divide(numer: f32, denom: f32) -> Option<f32>
     ensures value { result ≡ R.divided_of numer denom }
     ensures number { R.number_of_divided result ≡ 0 }
     ensures inside { R.Rising (R.values_of_divided result) }
@@ -89,6 +53,7 @@ pub fn valid_unit_divide(numer: f32, denom: f32) -> Divided
 }
 
 // Two roots in hand: the smaller first, and equal ones once.
+#[tactic(auto, unfolding(crate::specs::Roots::two_roots))]
 fn two_roots(r: f32, s: f32) -> Roots
     ensures { result ≡ R.two_roots r s }
 {
@@ -103,22 +68,19 @@ fn two_roots(r: f32, s: f32) -> Roots
 }
 
 // The roots among two quotients, in order.
-fn collected(first: Divided, second: Divided) -> Roots
+#[tactic(auto, unfolding(crate::specs::Roots::collected))]
+fn collected(first: Option<f32>, second: Option<f32>) -> Roots
     ensures { result ≡ R.collected first second }
 {
-    let Divided::One(r) = first else {
-        let Divided::One(s) = second else {
-            return Roots::None;
-        };
-        return Roots::One(s);
-    };
-    let Divided::One(s) = second else {
-        return Roots::One(r);
-    };
-    two_roots(r, s)
+    match (first, second) {
+        (None, None) => Roots::None,
+        (Some(r), None) | (None, Some(r)) => Roots::One(r),
+        (Some(r), Some(s)) => two_roots(r, s),
+    }
 }
 
 // The discriminant, in f64 so that it does not overflow.
+#[tactic(auto, unfolding(crate::specs::Roots::discriminant_of))]
 fn discriminant(a: f32, b: f32, c: f32) -> f64
     ensures { result ≡ R.discriminant_of a b c }
 {
@@ -127,17 +89,15 @@ fn discriminant(a: f32, b: f32, c: f32) -> f64
 
 // The discriminant's root, narrowed once it is taken. An infinity is told by the caller's test: an infinite root counts
 // as exact.
+#[tactic(auto, using(float_ground::proofs::Losses::carried))]
 fn root(dr: f64) -> f32
     ensures { result ≡ R.root_of_discriminant dr }
 {
-    match narrow(sqrt_f64(dr)) {
-        Narrowed::Exact(r) => r,
-        Narrowed::Rounded(r) => r,
-        Narrowed::ToInfinity(r) => r,
-    }
+    narrow(sqrt_f64(dr)).value()
 }
 
 // q/a and c/q are the roots, where r is the discriminant's root.
+#[tactic(auto, unfolding(crate::specs::Roots::q_of))]
 fn q(b: f32, r: f32) -> f32
     ensures { result ≡ R.q_of b r }
 {
@@ -149,13 +109,14 @@ fn q(b: f32, r: f32) -> f32
 }
 
 // The roots of a·t² + b·t + c that lie strictly between 0 and 1.
+#[tactic(auto, unfolding(crate::specs::Roots::roots_of))]
 pub fn find_unit_quad_roots(a: f32, b: f32, c: f32) -> Roots
     ensures value { result ≡ R.roots_of a b c }
     ensures number { R.number_of_roots result ≡ 0 }
     ensures inside { R.Rising (R.values_of_roots result) }
 {
     if a == 0.0 {
-        return collected(valid_unit_divide(-c, b), Divided::None);
+        return collected(valid_unit_divide(-c, b), None);
     }
     let dr = discriminant(a, b, c);
     if dr < 0.0 {

@@ -1,15 +1,20 @@
--- Whatever is read off the answer of a search for the maximum curvature goes by the same tests as the answer. Assumes nothing.
+-- The number and the values of what a search for the maximum curvature answers. Assumes nothing.
 use mathlib.Core.Path.{◌≡◌, refl}
 use mathlib.Core.Bool.{Bool, true, false, cond}
-use Rattle.quads.specs.declared.Quad.{Quad}
-use Rattle.quads.specs.declared.Curvature.{Curvature}
-use Rattle.quads.specs.declared.Curvature.TheVariants.{At, Undefined}
-use Rattle.quads.specs.Quads.{quad_curvature}
+use lib.Ieee.{Float}
+use Rattle.std.proofs.Common.{List, Result}
+use Rattle.quads.specs.declared.NoCurvature.{NoCurvature}
+use Rattle.quads.specs.Answers.{number_of_curvature, values_of_curvature}
+use Rattle.quads.specs.Quads.{quad_curvature, curvature_answer, curvature_number, curvature_values}
 
 of_cond : {A B : Type 0} (f : A → B) (t : Bool) (x y : A) → f (cond t x y) ≡ cond t (f x) (f y)
 of_cond f true x y = refl
 of_cond f false x y = refl
 
-pub read_off : {A : Type 0} (f : Curvature → A) (q : Quad) → f (quad_curvature At Undefined q) ≡ quad_curvature (λ t. f (At t)) (f Undefined) q
+pub curvature_numbered : {x : Result Float NoCurvature} (l : List Float) → x ≡ curvature_answer l → number_of_curvature x ≡ curvature_number l
 unfolding quad_curvature
-read_off f q = simp (of_cond f)
+curvature_numbered l e = rw e (simp (of_cond number_of_curvature))
+
+pub curvature_valued : {x : Result Float NoCurvature} (l : List Float) → x ≡ curvature_answer l → values_of_curvature x ≡ curvature_values l
+unfolding quad_curvature
+curvature_valued l e = rw e (simp (of_cond values_of_curvature))

@@ -1,16 +1,15 @@
 -- What the contracts of the quad's calls cite: the Rust's formulas, operation by operation (docs/RULES.md, "Quads and cubics"). Definitions only.
-use Rattle.std.specs.Prelude.{ℕ, cond, ◌&&◌, ◌||◌, List, [], ◌∷◌, Float}
+use Rattle.std.specs.Prelude.{ℕ, cond, ◌&&◌, ◌||◌, List, [], ◌∷◌, Float, Option, Result, Ok, Err}
 use Rattle.std.specs.Float.Ieee.{neg, lt, le, eq, is_nan}
 use Rattle.float_laws.specs.Formula.{◌⊕◌, ◌⊖◌, ◌⊗◌, ◌⊘◌, zero32, one32}
 use Rattle.point.specs.declared.Point.{Point}
 use Rattle.point.specs.Numbers.{flat, point_at}
 use Rattle.point.specs.Point.{point_from}
-use Rattle.quad_roots.specs.declared.Divided.{Divided}
 use Rattle.quad_roots.specs.Roots.{divided_of}
 use Rattle.quads.specs.declared.Quad.{Quad}
-use Rattle.quads.specs.declared.Curvature.{Curvature}
-use Rattle.quads.specs.declared.Curvature.TheVariants.{At, Undefined, BufferTooShort}
-use Rattle.quads.specs.Answers.{number_of_curvature, short_pick}
+use Rattle.quads.specs.declared.NoCurvature.{NoCurvature}
+use Rattle.quads.specs.declared.NoCurvature.TheVariants.{Undefined, BufferTooShort}
+use Rattle.quads.specs.Answers.{number_of_no_curvature, short_pick}
 use Rattle.quads.specs.Steps.{times2, square_at, same, minus, interp}
 
 abbrev pub quad_of : List Float → Quad
@@ -41,7 +40,7 @@ quad_chop q t =
     let p12 = interp q.p1 q.p2 t in
     flat (q.p0 ∷ p01 ∷ interp p01 p12 t ∷ p12 ∷ q.p2 ∷ [])
 
-abbrev pub quad_extrema : Float → Float → Float → Divided
+abbrev pub quad_extrema : Float → Float → Float → Option Float
 quad_extrema a b c = divided_of (a ⊖ b) (a ⊖ b ⊖ b ⊕ c)
 
 -- ---- maximum curvature
@@ -63,11 +62,12 @@ quad_curvature at five q =
     cond (lt d zero32) (clamped at five (neg n) (neg d)) (clamped at five n d)
 
 -- 2 comes before 5
-abbrev pub curvature_answer : List Float → Curvature
-curvature_answer l = short_pick 6 l BufferTooShort (quad_curvature At Undefined (quad_of l))
+abbrev pub curvature_answer : List Float → Result Float NoCurvature
+curvature_answer l = short_pick 6 l (Err BufferTooShort) (quad_curvature Ok (Err Undefined) (quad_of l))
 
 abbrev pub curvature_number : List Float → ℕ
-curvature_number l = short_pick 6 l (number_of_curvature BufferTooShort) (quad_curvature (λ t. 0) (number_of_curvature Undefined) (quad_of l))
+curvature_number l =
+    short_pick 6 l (number_of_no_curvature BufferTooShort) (quad_curvature (λ t. 0) (number_of_no_curvature Undefined) (quad_of l))
 
 abbrev pub curvature_values : List Float → List Float
 curvature_values l = short_pick 6 l [] (quad_curvature (λ t. t ∷ []) [] (quad_of l))

@@ -1,37 +1,29 @@
-// The tests of a parameter, and the steps on points that the formulas share.
+// The tests of a parameter, and the step on points that the formulas share.
 ghost use Rattle.std.specs.Prelude.{◌≡◌};
 ghost use Rattle.quads.specs.Steps as S;
 
+use super::Refusal;
 use point::Point;
 
-// Whether t is NaN or outside 0 ≤ t ≤ 1.
-pub fn outside_unit(t: f32) -> bool
-    ensures { result ≡ S.outside_unit t }
+// Refuses a t that is NaN or outside 0 ≤ t ≤ 1.
+pub fn in_unit(t: f32) -> Result<(), Refusal>
+    ensures { result ≡ S.in_unit t }
 {
-    !((t >= 0.0) & (t <= 1.0))
+    if (t >= 0.0) & (t <= 1.0) {
+        Ok(())
+    } else {
+        Err(Refusal::OutOfRange)
+    }
 }
 
-// Whether t is NaN or outside 0 < t < 1.
-pub fn outside_open_unit(t: f32) -> bool
-    ensures { result ≡ S.outside_open_unit t }
+// Refuses a t that is NaN or outside 0 < t < 1.
+pub fn in_open_unit(t: f32) -> Result<(), Refusal>
+    ensures { result ≡ S.in_open_unit t }
 {
-    !((t > 0.0) & (t < 1.0))
-}
-
-// Whether two points are equal as floats are: NaN equals nothing, and -0 equals 0.
-pub fn same(p: Point, q: Point) -> bool
-    ensures { result ≡ S.same p q }
-{
-    (p.x == q.x) & (p.y == q.y)
-}
-
-// The vector from q to p.
-pub fn minus(p: Point, q: Point) -> Point
-    ensures { result ≡ S.minus p q }
-{
-    Point {
-        x: p.x - q.x,
-        y: p.y - q.y,
+    if (t > 0.0) & (t < 1.0) {
+        Ok(())
+    } else {
+        Err(Refusal::OutOfRange)
     }
 }
 
