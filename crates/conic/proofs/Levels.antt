@@ -4,12 +4,13 @@ use mathlib.Core.Bool.{Bool, true, false, cond}
 use Prim.Native.Nat.{ℕ, zero, suc, ◌≤◌}
 use native.Mathlib.Omega.{arith}
 use lib.Ieee.{Float, le}
+use Rattle.std.specs.Prelude.{Result, Ok, Err}
 use Rattle.float_laws.specs.Formula.{◌⊗◌, quarter32}
 use Rattle.conic.specs.declared.Conic.{Conic}
-use Rattle.conic.specs.declared.Level.{Level}
-use Rattle.conic.specs.declared.Level.TheVariants.{Pow2, Refused}
+use Rattle.conic.specs.declared.Refusal.{Refusal}
+use Rattle.conic.specs.declared.leveling.Limits.{Limits}
 use Rattle.conic.specs.declared.Refusal.TheVariants.{LevelTooHigh, BufferTooShort, PointNotFinite, BadTolerance}
-use Rattle.conic.specs.Level.{error_of, quarterings_of, at_least_one, level_of, bad_ceiling, bad_tolerance, conic_finite, refuse_level, level_answer, Chosen}
+use Rattle.conic.specs.Level.{error_of, quarterings_of, at_least_one, level_of, bad_ceiling, bad_tolerance, conic_finite, refuse_level, level_answer, limits_of, level_by, Chosen}
 use Rattle.conic.specs.Refusal.{number_of_level, values_of_level}
 
 one_more : (b : Bool) (m n : ℕ) → m ≤ n → cond b 0 (suc m) ≤ suc n
@@ -29,22 +30,53 @@ pub level_low : (m : ℕ) (c : Conic) (t : Float) → 1 ≤ m → level_of m c t
 unfolding level_of
 level_low m c t k = low (quarterings_of m (error_of c) t) m (few m (error_of c) t) k
 
-module _ {A : Type 0} (of : Level → A) where
+module _ {A : Type 0} (of : Result ℕ Refusal → A) where
   of_answer : (none bad short good : Bool) (n : ℕ)
-      → of (cond none (Refused LevelTooHigh)
-      (cond bad (Refused BadTolerance) (cond short (Refused BufferTooShort) (cond good (Pow2 n) (Refused PointNotFinite)))))
-      ≡ cond none (of (Refused LevelTooHigh))
-      (cond bad (of (Refused BadTolerance)) (cond short (of (Refused BufferTooShort)) (cond good (of (Pow2 n)) (of (Refused PointNotFinite)))))
+      → of (cond none (Err LevelTooHigh)
+      (cond bad (Err BadTolerance) (cond short (Err BufferTooShort) (cond good (Ok n) (Err PointNotFinite)))))
+      ≡ cond none (of (Err LevelTooHigh))
+      (cond bad (of (Err BadTolerance)) (cond short (of (Err BufferTooShort)) (cond good (of (Ok n)) (of (Err PointNotFinite)))))
   of_answer true bad short good n = refl
   of_answer false true short good n = refl
   of_answer false false true good n = refl
   of_answer false false false true n = refl
   of_answer false false false false n = refl
 
-  told : (m : ℕ) (short : Bool) (c : Conic) (t : Float) (r : Level) → r ≡ level_answer m short c t
-      → of r ≡ refuse_level m short c t (λ q. of (Refused q)) (of (Pow2 (level_of m c t)))
+  told : (m : ℕ) (short : Bool) (c : Conic) (t : Float) (r : Result ℕ Refusal) → r ≡ level_answer m short c t
+      → of r ≡ refuse_level m short c t (λ q. of (Err q)) (of (Ok (level_of m c t)))
   unfolding level_answer
   told m short c t r e = ap of e ∙ of_answer (bad_ceiling m) (bad_tolerance t) short (conic_finite c) (level_of m c t)
 
-pub chosen : {m : ℕ} {short : Bool} {c : Conic} {t : Float} {r : Level} → r ≡ level_answer m short c t → Chosen m short c t r
+pub chosen : {m : ℕ} {short : Bool} {c : Conic} {t : Float} {r : Result ℕ Refusal} → r ≡ level_answer m short c t → Chosen m short c t r
 chosen {m} {short} {c} {t} {r} e = record { answer = e; number = told number_of_level m short c t r e; values = told values_of_level m short c t r e }
+
+-- ---- the two steps of an answer
+by_limits : (none bad : Bool) (l k : Limits) → cond none (Err LevelTooHigh) (cond bad (Err BadTolerance) (Ok l)) ≡ Ok k → (none ≡ false) × (bad ≡ false) × (l ≡ k)
+by_limits true bad l k e = let z : ◌≡◌ {A = ℕ} 0 1 = cc in absurd (omega arith)
+by_limits false true l k e = let z : ◌≡◌ {A = ℕ} 0 1 = cc in absurd (omega arith)
+by_limits false false l k e = (refl, refl, cc)
+
+refused : (none bad : Bool) (l : Limits) (why : Refusal) (r : Result ℕ Refusal) → cond none (Err LevelTooHigh) (cond bad (Err BadTolerance) (Ok l)) ≡ Err why
+    → ◌≡◌ {A = Result ℕ Refusal} (Err why) (cond none (Err LevelTooHigh) (cond bad (Err BadTolerance) r))
+refused true bad l why r e = cc
+refused false true l why r e = cc
+refused false false l why r e = let z : ◌≡◌ {A = ℕ} 0 1 = cc in absurd (omega arith)
+
+-- refused by its limits
+pub refused_first : (m : ℕ) (short : Bool) (c : Conic) (t : Float) (why : Refusal) → limits_of t m ≡ Err why → Chosen m short c t (Err why)
+unfolding level_answer
+refused_first m short c t why e =
+    chosen (refused (bad_ceiling m) (bad_tolerance t) (record { tolerance = t; ceiling = m }) why _ e)
+
+-- within its limits: short, or by its level
+pub refused_short : (m : ℕ) (c : Conic) (t : Float) (l : Limits) → limits_of t m ≡ Ok l → Chosen m true c t (Err BufferTooShort)
+unfolding level_answer
+refused_short m c t l e =
+    let k = by_limits (bad_ceiling m) (bad_tolerance t) (record { tolerance = t; ceiling = m }) l e in
+    chosen (rw (k.0, k.1) refl)
+
+pub by_level : (m : ℕ) (c : Conic) (t : Float) (l : Limits) (r : Result ℕ Refusal) → limits_of t m ≡ Ok l → r ≡ level_by l c → Chosen m false c t r
+unfolding level_answer
+by_level m c t l r e h =
+    let k = by_limits (bad_ceiling m) (bad_tolerance t) (record { tolerance = t; ceiling = m }) l e in
+    chosen (h ∙ rw (k.0, k.1, ← k.2) refl)

@@ -7,37 +7,36 @@ use native.Mathlib.Omega.{arith}
 use lib.Dec.{ltb}
 use lib.ListN.{length}
 use lib.Ieee.{Float}
+use Rattle.std.specs.Prelude.{Result, Ok, Err}
 use Rattle.conic.specs.declared.Conic.{Conic}
 use Rattle.conic.specs.declared.Refusal.{Refusal}
 use Rattle.conic.specs.declared.Refusal.TheVariants.{BufferTooShort}
 use Rattle.conic.specs.declared.Rule.{Rule}
-use Rattle.conic.specs.declared.FromPoints.{FromPoints}
-use Rattle.conic.specs.declared.FromPoints.TheVariants.{Made, Refused}
 use Rattle.conic.specs.Refusal.{number_of_from_points, values_of_from_points}
 use Rattle.conic.specs.Source.{conic_of, source_answer, Taken}
 
-by_made : (b : Bool) (d c : Conic) → cond b (Refused BufferTooShort) (Made d) ≡ Made c → (b ≡ false) × (c ≡ d)
+by_made : (b : Bool) (d c : Conic) → cond b (Err BufferTooShort) (Ok d) ≡ Ok c → (b ≡ false) × (c ≡ d)
 by_made true d c e = let z : ◌≡◌ {A = ℕ} 0 1 = cc in absurd (omega arith)
 by_made false d c e = (refl, cc)
 
-by_refused : (b : Bool) (d : Conic) (r : Refusal) → cond b (Refused BufferTooShort) (Made d) ≡ Refused r → (b ≡ true) × (r ≡ BufferTooShort)
+by_refused : (b : Bool) (d : Conic) (r : Refusal) → cond b (Err BufferTooShort) (Ok d) ≡ Err r → (b ≡ true) × (r ≡ BufferTooShort)
 by_refused true d r e = (refl, cc)
 by_refused false d r e = let z : ◌≡◌ {A = ℕ} 0 1 = cc in absurd (omega arith)
 
-pub was_made : (l : List Float) (w : Float) (u : Rule) (c : Conic) → source_answer l w u ≡ Made c → (ltb (length l) 6 ≡ false) × (c ≡ conic_of l w u)
+pub was_made : (l : List Float) (w : Float) (u : Rule) (c : Conic) → source_answer l w u ≡ Ok c → (ltb (length l) 6 ≡ false) × (c ≡ conic_of l w u)
 unfolding source_answer
 was_made l w u c e = by_made (ltb (length l) 6) (conic_of l w u) c e
 
-pub was_refused : (l : List Float) (w : Float) (u : Rule) (r : Refusal) → source_answer l w u ≡ Refused r → (ltb (length l) 6 ≡ true) × (r ≡ BufferTooShort)
+pub was_refused : (l : List Float) (w : Float) (u : Rule) (r : Refusal) → source_answer l w u ≡ Err r → (ltb (length l) 6 ≡ true) × (r ≡ BufferTooShort)
 unfolding source_answer
 was_refused l w u r e = by_refused (ltb (length l) 6) (conic_of l w u) r e
 
-of_answer : {A : Type 0} (of : FromPoints → A) (short : Bool) (c : Conic)
-    → of (cond short (Refused BufferTooShort) (Made c)) ≡ cond short (of (Refused BufferTooShort)) (of (Made c))
+of_answer : {A : Type 0} (of : Result Conic Refusal → A) (short : Bool) (c : Conic)
+    → of (cond short (Err BufferTooShort) (Ok c)) ≡ cond short (of (Err BufferTooShort)) (of (Ok c))
 of_answer of true c = refl
 of_answer of false c = refl
 
-pub taken : {l : List Float} {w : Float} {u : Rule} {r : FromPoints} → r ≡ source_answer l w u → Taken l w u r
+pub taken : {l : List Float} {w : Float} {u : Rule} {r : Result Conic Refusal} → r ≡ source_answer l w u → Taken l w u r
 unfolding source_answer
 taken {l} {w} {u} e = record {
   answer = e;

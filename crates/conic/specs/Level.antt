@@ -1,6 +1,6 @@
 -- The highest levels, and the level choice: how far one quad would be from a conic, and how often that is quartered until it is
 -- within the tolerance (docs/RULES.md, "Conics"). Definitions only.
-use Rattle.std.specs.Prelude.{ℕ, zero, suc, ◌≡◌, Bool, not, cond, ◌&&◌, ◌||◌, [], ◌∷◌, eqb, Float}
+use Rattle.std.specs.Prelude.{ℕ, zero, suc, ◌≡◌, Bool, not, cond, ◌&&◌, ◌||◌, [], ◌∷◌, eqb, Result, Ok, Err, Float}
 use Rattle.std.specs.Float.{binary32}
 use Rattle.std.specs.Float.Ieee.{lt, le}
 use Rattle.std.specs.Float.Ieee.Scale.{finite}
@@ -8,10 +8,9 @@ use Rattle.float_laws.specs.Formula.{◌⊕◌, ◌⊖◌, ◌⊗◌, ◌⊘◌,
 use Rattle.float_laws.specs.Root.{root_of}
 use Rattle.point.specs.Point.{point_finite}
 use Rattle.conic.specs.declared.Conic.{Conic}
-use Rattle.conic.specs.declared.Level.{Level}
-use Rattle.conic.specs.declared.Level.TheVariants.{Pow2, Refused}
 use Rattle.conic.specs.declared.Refusal.{Refusal}
 use Rattle.conic.specs.declared.Refusal.TheVariants.{LevelTooHigh, BufferTooShort, PointNotFinite, BadTolerance}
+use Rattle.conic.specs.declared.leveling.Limits.{Limits}
 use Rattle.conic.specs.Refusal.{number_of_refusal, values_of_refusal, number_of_level, values_of_level}
 
 -- the highest level of a cut
@@ -65,11 +64,21 @@ refuse_level m short c t refused well =
     (cond short (refused BufferTooShort)
     (cond (conic_finite c) well (refused PointNotFinite))))
 
-unfoldable pub level_answer : ℕ → Bool → Conic → Float → Level
-level_answer m short c t = refuse_level m short c t Refused (Pow2 (level_of m c t))
+unfoldable pub level_answer : ℕ → Bool → Conic → Float → Result ℕ Refusal
+level_answer m short c t = refuse_level m short c t Err (Ok (level_of m c t))
+
+-- its two steps: the limits, refused with 1, then 4; and the level of a conic by these, refused with 3
+abbrev pub limits_of : Float → ℕ → Result Limits Refusal
+limits_of t m =
+    cond (bad_ceiling m) (Err LevelTooHigh)
+    (cond (bad_tolerance t) (Err BadTolerance)
+    (Ok (record { tolerance = t; ceiling = m })))
+
+abbrev pub level_by : Limits → Conic → Result ℕ Refusal
+level_by l c = cond (conic_finite c) (Ok (level_of l.ceiling c l.tolerance)) (Err PointNotFinite)
 
 -- the answer, its number and its values; two answers that meet it are one (`one_chosen` of proofs/Unique)
-pub record Chosen (m : ℕ) (short : Bool) (c : Conic) (t : Float) (r : Level) : Type 0 where
+pub record Chosen (m : ℕ) (short : Bool) (c : Conic) (t : Float) (r : Result ℕ Refusal) : Type 0 where
   pub answer : r ≡ level_answer m short c t
   pub number : number_of_level r ≡ refuse_level m short c t number_of_refusal 0
   pub values : values_of_level r ≡ refuse_level m short c t values_of_refusal (level_of m c t ∷ [])

@@ -4,7 +4,6 @@ ghost use Rattle.conic.specs.Chop.{line_of, wide_middle, plain_lines, whole_midd
 
 use crate::ruling::Test;
 use crate::{Conic, Halves, Rule, mending};
-use float_ground::Narrowed;
 use point::Point;
 
 // What a chop puts between a start and an end, along one axis: the first half's control, the middle, the second half's control.
@@ -43,11 +42,7 @@ fn wide_middle(a: f32, b: f32, c: f32, weight: f32) -> f32
     let w = float_ground::widen(weight);
     let scale_half = 1.0 / (1.0 + w) * 0.5;
     let sum = float_ground::widen(a) + w * 2.0 * float_ground::widen(b) + float_ground::widen(c);
-    match float_ground::narrow(sum * scale_half) {
-        Narrowed::Exact(m) => m,
-        Narrowed::Rounded(m) => m,
-        Narrowed::ToInfinity(m) => m,
-    }
+    float_ground::narrow(sum * scale_half).value()
 }
 
 // Both axes of a chop, as the formulas give them.
@@ -100,8 +95,7 @@ pub fn is_settled(c: Conic, l: Lines) -> bool
     }
     let rule = c.rule;
     match rule {
-        Rule::Product => true,
-        Rule::Exact => true,
+        Rule::Product | Rule::Exact => true,
         Rule::BothAxes => mending::is_settled(c.p0.x, c.p2.x, l.x),
     }
 }
@@ -131,7 +125,8 @@ pub fn mended(c: Conic, l: Lines) -> Lines
     }
 }
 
-// The halves of c that these lines make, number by number: a point that is copied whole is slower.
+// The halves of c that these lines make, number by number: a cut that copies its points whole was measured slower
+// (docs/SPEED.md, "the conic put together for the recursion").
 pub fn halves(c: Conic, l: Lines, weight: f32) -> Halves
     ensures { result ≡ halves_at weight c l }
 {

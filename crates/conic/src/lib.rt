@@ -7,10 +7,12 @@ ghost use Rattle.conic.specs.declared.Rule.TheVariants.{Product};
 ghost use Rattle.conic.specs.Between.{product_test, exact_test};
 ghost use Rattle.conic.specs.Chop.{conic_from, weight_of, chop_of, chop_by_rule};
 ghost use Rattle.conic.specs.Level.{Chosen};
-ghost use Rattle.conic.specs.Refusal.{number_of_refusal, number_of_from_points, number_of_level};
+ghost use Rattle.conic.specs.Refusal.{number_of_refusal, refusal_numbers};
 ghost use Rattle.conic.specs.Source.{conic_of, short_source, Taken};
 
+use answers::Numbered;
 use depth::Depth;
+use leveling::Limits;
 use point::Point;
 
 mod chopping;
@@ -40,7 +42,7 @@ pub struct Halves {
 }
 
 // Which between test a cut goes by, and along which axes: y alone, by either test, or both, by the exact one.
-#[derive(Clone, Copy)]
+#[derive(Clone, Copy, Debug, PartialEq, Eq)]
 pub enum Rule {
     Product,
     Exact,
@@ -48,7 +50,7 @@ pub enum Rule {
 }
 
 // Why a call does nothing.
-#[derive(Clone, Copy)]
+#[derive(Clone, Copy, Debug, PartialEq, Eq)]
 pub enum Refusal {
     LevelTooHigh,
     BufferTooShort,
@@ -56,54 +58,18 @@ pub enum Refusal {
     BadTolerance,
 }
 
-impl Refusal {
-    // Its number in docs/RULES.md, "Answer numbers".
-    pub fn number(self) -> u32
-        ensures { result ≡ number_of_refusal self }
-    {
+// Their numbers in docs/RULES.md, "Answer numbers".
+impl Numbered for Refusal {
+    ghost number_of = { number_of_refusal };
+
+    ghost above_zero = { refusal_numbers };
+
+    fn number(self) -> u32 {
         match self {
             Refusal::LevelTooHigh => 1,
             Refusal::BufferTooShort => 2,
             Refusal::PointNotFinite => 3,
             Refusal::BadTolerance => 4,
-        }
-    }
-}
-
-// The conic of a lent source.
-#[derive(Clone, Copy)]
-pub enum FromPoints {
-    Made(Conic),
-    Refused(Refusal),
-}
-
-impl FromPoints {
-    // Its number in docs/RULES.md, "Answer numbers".
-    pub fn number(self) -> u32
-        ensures { result ≡ number_of_from_points self }
-    {
-        match self {
-            FromPoints::Made(_) => 0,
-            FromPoints::Refused(r) => r.number(),
-        }
-    }
-}
-
-// The level at which a conic is to be cut: two to the power of it is the number of quads.
-#[derive(Clone, Copy)]
-pub enum Level {
-    Pow2(u32),
-    Refused(Refusal),
-}
-
-impl Level {
-    // Its number in docs/RULES.md, "Answer numbers".
-    pub fn number(self) -> u32
-        ensures { result ≡ number_of_level self }
-    {
-        match self {
-            Level::Pow2(_) => 0,
-            Level::Refused(r) => r.number(),
         }
     }
 }
@@ -144,11 +110,11 @@ impl Conic {
     }
 
     // The conic of the first six numbers, x and y of each point; refused where there are fewer.
-    pub fn from_points(src: &[f32], weight: f32, rule: Rule) -> FromPoints
+    pub fn from_points(src: &[f32], weight: f32, rule: Rule) -> Result<Conic, Refusal>
         ensures { Taken src.now weight rule result }
     {
         if src.len() < 6 {
-            return FromPoints::Refused(Refusal::BufferTooShort);
+            return Err(Refusal::BufferTooShort);
         }
         let p0 = Point {
             x: src[0],
@@ -162,7 +128,7 @@ impl Conic {
             x: src[4],
             y: src[5],
         };
-        FromPoints::Made(Conic::new(p0, p1, p2, weight, rule))
+        Ok(Conic::new(p0, p1, p2, weight, rule))
     }
 
     // Both halves, as the formulas give them, with the conic's rule.
@@ -191,36 +157,23 @@ impl Conic {
     // The least level, from 1 on, at which the estimate of the quads' distance from the conic is within the tolerance; at
     // most the ceiling, where it need not be. Refused for a ceiling that is neither of the two above, then for a bad
     // tolerance, and then for a point that is not finite.
-    pub fn compute_quad_pow2(self, tolerance: f32, ceiling: u32) -> Level
+    pub fn compute_quad_pow2(self, tolerance: f32, ceiling: u32) -> Result<u32, Refusal>
         ensures { Chosen ceiling false self tolerance result }
     {
-        if leveling::is_bad_ceiling(ceiling) {
-            return Level::Refused(Refusal::LevelTooHigh);
-        }
-        if leveling::is_bad(tolerance) {
-            return Level::Refused(Refusal::BadTolerance);
-        }
-        if !leveling::is_finite(self) {
-            return Level::Refused(Refusal::PointNotFinite);
-        }
-        Level::Pow2(leveling::level(self, tolerance, ceiling))
+        Limits::new(tolerance, ceiling)?.level(self)
     }
 
     // The same of the conic of the first six numbers. Fewer are refused after a bad tolerance. A rule has no part in it.
-    pub fn compute_quad_pow2_from(src: &[f32], weight: f32, tolerance: f32, ceiling: u32) -> Level
+    pub fn compute_quad_pow2_from(
+        src: &[f32],
+        weight: f32,
+        tolerance: f32,
+        ceiling: u32,
+    ) -> Result<u32, Refusal>
         ensures { Chosen ceiling (short_source src.now) (conic_of src.now weight Product) tolerance result }
     {
-        let no_ceiling = leveling::is_bad_ceiling(ceiling);
-        if no_ceiling {
-            return Level::Refused(Refusal::LevelTooHigh);
-        }
-        let bad = leveling::is_bad(tolerance);
-        if bad {
-            return Level::Refused(Refusal::BadTolerance);
-        }
-        match Conic::from_points(src, weight, Rule::Product) {
-            FromPoints::Made(c) => c.compute_quad_pow2(tolerance, ceiling),
-            FromPoints::Refused(r) => Level::Refused(r),
-        }
+        let limits = Limits::new(tolerance, ceiling)?;
+        let c = Conic::from_points(src, weight, Rule::Product)?;
+        limits.level(c)
     }
 }

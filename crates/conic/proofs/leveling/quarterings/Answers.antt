@@ -25,29 +25,22 @@ unfolding quarterings_of
 beyond n p e t h f = let k : n - p ≡ suc (n - (p + 1)) = omega arith in rw (k, f)
 
 pub loop-pow2-init : goal.loop-pow2-init
-loop-pow2-init c = (omega arith, rw (sub-zero, zero-add))
+loop-pow2-init c = rw (sub-zero, zero-add)
 
 pub returns-then-left-tolerance : goal.returns-then-left-tolerance
 returns-then-left-tolerance c =
     let a = c.args in
     let at-loop = c.loop-pow2 in
-    omega (arith, at-loop.invariant.1, within (a.ceiling - at-loop.pow2) at-loop.left a.tolerance c.if-left-tolerance.true)
-
-pub overflow_add-pow2 : goal.overflow_add-pow2
-overflow_add-pow2 c = omega arith
-
-pub loop-pow2-smaller : goal.loop-pow2-smaller
-loop-pow2-smaller c = omega arith
+    omega (arith, at-loop.invariant, within (a.ceiling - at-loop.pow2) at-loop.left a.tolerance c.if-left-tolerance.true)
 
 pub loop-pow2-preserved : goal.loop-pow2-preserved
 loop-pow2-preserved c =
     let a = c.args in
     let at-loop = c.loop-pow2 in
-    let more = beyond a.ceiling at-loop.pow2 at-loop.left a.tolerance c.loop-pow2-test.true c.if-left-tolerance.false in
-    (omega arith, omega (arith, at-loop.invariant.1, more))
+    omega (arith, at-loop.invariant, beyond a.ceiling at-loop.pow2 at-loop.left a.tolerance (omega arith) c.if-left-tolerance.false)
 
 pub returns : goal.returns
 returns c =
     let a = c.args in
     let at-loop = c.loop-pow2 in
-    omega (arith, at-loop.invariant.1, none (a.ceiling - at-loop.pow2) at-loop.left a.tolerance (omega arith))
+    omega (arith, at-loop.invariant, none (a.ceiling - at-loop.pow2) at-loop.left a.tolerance (omega arith))

@@ -1,10 +1,7 @@
 use mathlib.Core.Path.{◌≡◌}
-use Prim.Native.Nat.{◌+◌, ◌-◌, ◌≤◌}
+use Prim.Native.Nat.{◌+◌, ◌-◌}
 use Rattle.conic.specs.Level.{quarterings_of}
 use Rattle.conic.proofs.leveling.quarterings.Given as goal
 
 abbrev pub invariant-loop-pow2 : goal.invariant-loop-pow2
-invariant-loop-pow2 l = (l.pow2 ≤ l.ceiling) × (l.pow2 + quarterings_of (l.ceiling - l.pow2) l.left l.tolerance ≡ quarterings_of l.ceiling l.error l.tolerance)
-
-abbrev pub decreases-loop-pow2 : goal.decreases-loop-pow2
-decreases-loop-pow2 l = l.ceiling - l.pow2
+invariant-loop-pow2 l = l.pow2 + quarterings_of (l.ceiling - l.pow2) l.left l.tolerance ≡ quarterings_of l.ceiling l.error l.tolerance
