@@ -1,3 +1,3 @@
 pub mod Agree
+pub mod Mapped
 pub mod Pairs
-pub mod Upto

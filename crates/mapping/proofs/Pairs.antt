@@ -2,7 +2,7 @@
 -- Of whole points, that is the numbers of the mapped points (`whole_points`). Assumes nothing.
 use mathlib.Core.Path.{◌≡◌, refl, ap}
 use mathlib.Core.List.{List, [], ◌∷◌, map}
-use Prim.Native.Nat.{ℕ, zero, suc, ◌+◌, ◌%◌, ◌≤◌, ◌<◌}
+use Prim.Native.Nat.{ℕ, zero, suc, ◌+◌, ◌*◌, ◌%◌, ◌≤◌, ◌<◌}
 use native.Mathlib.Numerals.{add-one}
 use native.Mathlib.Omega.{arith}
 use native.Mathlib.Nat.{not-suc-le-zero, le_of_suc-le-suc}
@@ -26,25 +26,26 @@ module _ (f : Point → Point) where
       let p = f (record { x = get_or l i d; y = get_or l (suc i) d }) in map_from (suc (suc i)) (set (set l i p.x) (suc i) p.y) ≡ map_from i l
   unfolding map_pairs
   step i [] d h = absurd (not-suc-le-zero h)
-  step zero (x ∷ []) d h = absurd (not-suc-le-zero (le_of_suc-le-suc h))
+  step zero (x ∷ []) d h = absurd (omega arith)
   step zero (x ∷ y ∷ l) d h = refl
   step (suc i) (x ∷ l) d h = ap (λ (m : List Float). x ∷ m) (step i l d (le_of_suc-le-suc h))
 
-  -- the two at i are mapped
-  pub next : (i : ℕ) (l : List Float) (d : Float) {p : Point} → i + 1 < length l → p ≡ f (record { x = get_or l i d; y = get_or l (i + 1) d }) →
-      map_from (i + 2) (set (set l i p.x) (i + 1) p.y) ≡ map_from i l
+  -- the two of the pair i are mapped
+  pub next : (i : ℕ) (l : List Float) (d : Float) {p : Point} → 2 * i + 1 < length l →
+      p ≡ f (record { x = get_or l (2 * i) d; y = get_or l (2 * i + 1) d }) →
+      map_from (2 * (i + 1)) (set (set l (2 * i) p.x) (2 * i + 1) p.y) ≡ map_from (2 * i) l
   next i l d h e =
-      let two : i + 2 ≡ suc (suc i) = omega arith in
-      rw (e, two, add-one) (step i l d (omega arith))
+      let two : 2 * (i + 1) ≡ suc (suc (2 * i)) = omega arith in
+      rw (e, two, add-one) (step (2 * i) l d (omega arith))
 
   -- fewer than two are left
-  pub all : (i : ℕ) (l : List Float) → length l ≤ suc i → map_from i l ≡ l
+  pub all : (i : ℕ) (l : List Float) → length l ≤ i + 1 → map_from i l ≡ l
   unfolding map_pairs
   all zero [] h = refl
   all zero (x ∷ []) h = refl
-  all zero (x ∷ y ∷ l) h = absurd (not-suc-le-zero (le_of_suc-le-suc h))
+  all zero (x ∷ y ∷ l) h = absurd (omega arith)
   all (suc i) [] h = refl
-  all (suc i) (x ∷ l) h = ap (λ (m : List Float). x ∷ m) (all i l (le_of_suc-le-suc h))
+  all (suc i) (x ∷ l) h = ap (λ (m : List Float). x ∷ m) (all i l (omega arith))
 
   pub whole_points : (l : List Float) → length l % 2 ≡ 0 → map_pairs l ≡ flat (map f (points_of l))
   unfolding map_pairs flat points_of

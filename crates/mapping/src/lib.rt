@@ -3,62 +3,59 @@
 
 ghost use Rattle.std.specs.Prelude.{◌≡◌, map};
 ghost use Rattle.transform.specs.Mapped.{map_point};
+ghost use Rattle.mapping.specs.Numbers.{number_of_refusal, refusal_numbers};
 ghost use Rattle.mapping.specs.Numbers.{number_of_mapping, mapping_answer, mapping_number, mapped_numbers};
 
+use answers::Numbered;
 use point::Point;
 use transform::Transform;
 
-// What mapping a buffer of numbers answers.
-#[derive(Clone, Copy)]
-pub enum Mapping {
-    Mapped,
+// Why a buffer of numbers is not mapped.
+#[derive(Clone, Copy, Debug, PartialEq, Eq)]
+pub enum Refusal {
     // The numbers are no whole points.
     OddLength,
 }
 
-impl Mapping {
-    // Its number in docs/RULES.md, "Answer numbers".
-    pub fn number(self) -> u32
-        ensures { result ≡ number_of_mapping self }
-    {
+impl Numbered for Refusal {
+    ghost number_of = { number_of_refusal };
+
+    ghost above_zero = { refusal_numbers };
+
+    fn number(self) -> u32 {
         match self {
-            Mapping::Mapped => 0,
-            Mapping::OddLength => 9,
+            Refusal::OddLength => 9,
         }
     }
 }
 
 // Maps each point of a buffer that holds x, y, x, y. A buffer of odd length is left as it is.
-pub fn map_numbers(ts: Transform, numbers: &mut [f32]) -> Mapping
+pub fn map_numbers(ts: Transform, numbers: &mut [f32]) -> Result<(), Refusal>
     ensures answer { result ≡ mapping_answer numbers.old }
     ensures number { number_of_mapping result ≡ mapping_number numbers.old }
     ensures buffer { numbers.new ≡ mapped_numbers ts numbers.old }
 {
     if numbers.len() % 2 != 0 {
-        return Mapping::OddLength;
+        return Err(Refusal::OddLength);
     }
-    let mut i = 0;
-    while i + 1 < numbers.len() {
+    for i in 0..numbers.len() / 2 {
         let p = ts.map_point(Point {
-            x: numbers[i],
-            y: numbers[i + 1],
+            x: numbers[2 * i],
+            y: numbers[2 * i + 1],
         });
-        numbers[i] = p.x;
-        numbers[i + 1] = p.y;
-        i += 2;
+        numbers[2 * i] = p.x;
+        numbers[2 * i + 1] = p.y;
     }
-    Mapping::Mapped
+    Ok(())
 }
 
 // Maps each point of a slice.
+#[tactic(auto, using(crate::proofs::Mapped::mapped_next))]
 pub fn map_points(ts: Transform, points: &mut [Point])
     ensures { points.new ≡ map (map_point ts) points.old }
 {
-    let mut i: usize = 0;
-    while i < points.len() {
-        let x = points[i].x;
-        let y = points[i].y;
-        points[i] = ts.map_point(Point { x, y });
-        i += 1;
+    for p in points.iter_mut() {
+        // as two numbers: a point that is copied whole is loaded slowly
+        *p = ts.map_point(Point { x: p.x, y: p.y });
     }
 }

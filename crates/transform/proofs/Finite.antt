@@ -5,9 +5,11 @@ use lib.Ieee.{Float, nan, inf, fin, ne, neg, mul, div, of_bits, of_fields}
 use lib.Ieee.Scale.{finite}
 use Rattle.float_laws.specs.Formula.{zero32, one32}
 use Rattle.float_laws.specs.Narrow.{some_lost}
+use Rattle.std.specs.Prelude.{Result, Ok, Err}
 use Rattle.transform.specs.declared.Transform.{Transform}
-use Rattle.transform.specs.declared.invert.Inversion.{Inversion}
-use Rattle.transform.specs.declared.invert.Inversion.TheVariants.{Inverted, NearlySingular, NotFinite}
+use Rattle.transform.specs.declared.Computed.{Computed}
+use Rattle.transform.specs.declared.invert.Refusal.{Refusal}
+use Rattle.transform.specs.declared.invert.Refusal.TheVariants.{NearlySingular, NotFinite}
 use Rattle.transform.specs.Kinds.{differs, has_scale, has_skew, has_translate, has_only, is_identity, is_finite}
 use Rattle.transform.specs.Row.{scale_of}
 use Rattle.transform.specs.Told.{computed_of}
@@ -51,16 +53,15 @@ identity_finite t i =
 
 -- ---- what is given
 
-abbrev given_finite : Inversion → Bool
-given_finite (Inverted c) = is_finite c.transform
-given_finite NearlySingular = true
-given_finite NotFinite = true
+abbrev given_finite : Result Computed Refusal → Bool
+given_finite (Ok c) = is_finite c.transform
+given_finite (Err why) = true
 
 checked_finite : (inverse : Transform) (rounded : Bool) → given_finite (checked_of inverse rounded) ≡ true
 unfolding checked_of
 checked_finite inverse rounded = go (is_finite inverse) refl
   where
-    go : (f : Bool) → is_finite inverse ≡ f → given_finite (cond f (Inverted (computed_of inverse rounded)) NotFinite) ≡ true
+    go : (f : Bool) → is_finite inverse ≡ f → given_finite (cond f (Ok (computed_of inverse rounded)) (Err NotFinite)) ≡ true
     go true e = e
     go false e = refl
 
@@ -68,7 +69,7 @@ pub given_finite_lem : GivenIsFinite
 unfolding invert_of
 given_finite_lem t c e = ap given_finite (sym e) ∙ go (has_skew t && nearly_singular t)
   where
-    go : (near : Bool) → given_finite (cond near NearlySingular (checked_of (inverse_of t) (some_lost (invert_narrows t)))) ≡ true
+    go : (near : Bool) → given_finite (cond near (Err NearlySingular) (checked_of (inverse_of t) (some_lost (invert_narrows t)))) ≡ true
     go true = refl
     go false = checked_finite (inverse_of t) (some_lost (invert_narrows t))
 

@@ -1,3 +1,4 @@
 pub mod Entries
 pub mod Finite
 pub mod Undone
+pub mod Skewed

@@ -2,10 +2,10 @@
 -- nothing.
 use mathlib.Core.Path.{◌≡◌, refl}
 use mathlib.Core.Bool.{Bool, true, false, not, cond, ◌&&◌, ◌||◌, beq, true≢false, false≢true}
+use Rattle.std.specs.Prelude.{Ok, Err}
 use Rattle.float_laws.specs.Narrow.{kept, some_lost}
 use Rattle.transform.specs.declared.Transform.{Transform}
-use Rattle.transform.specs.declared.invert.Inversion.TheVariants.{NearlySingular}
-use Rattle.transform.specs.declared.invert.InvDeterminant.TheVariants.{Is, NearlyZero}
+use Rattle.transform.specs.declared.invert.Refusal.TheVariants.{NearlySingular}
 use Rattle.transform.specs.Kinds.{has_scale, has_skew, has_translate, has_only, is_identity, is_scale_translate}
 use Rattle.transform.specs.Inverse.{invert_of, inverse_of, invert_narrows, unskewed_inverse, skewed_inverse, skewed_scaled, inv_determinant}
 use Rattle.transform.specs.Inverse.{skewed_inversion, checked_of, determinant, nearly_singular, over_determinant}
@@ -50,8 +50,9 @@ unfolding invert_of inverse_of invert_narrows has_only is_scale_translate inv_de
 by_determinant t i m =
     rw (i, else_skews (has_scale t) (has_skew t) (has_translate t) i m) (go (nearly_singular t))
   where
-    go : (near : Bool) → skewed_inversion t (cond near NearlyZero (Is (over_determinant t) (not (kept (determinant t))))) ≡
-        cond near NearlySingular
+    go : (near : Bool) → skewed_inversion t
+        (cond near (Err NearlySingular) (Ok (record { value = over_determinant t; rounded = not (kept (determinant t)) }))) ≡
+        cond near (Err NearlySingular)
         (checked_of (skewed_inverse t (over_determinant t)) (not (kept (determinant t)) || some_lost (skewed_scaled t (over_determinant t))))
     go true = refl
     go false = refl

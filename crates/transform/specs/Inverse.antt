@@ -1,34 +1,39 @@
 -- What `invert` answers. Definitions only.
-use Rattle.std.specs.Prelude.{Bool, not, cond, ◌&&◌, ◌||◌, List, [], ◌∷◌, ℕ, Float}
+use Rattle.std.specs.Prelude.{Bool, not, cond, ◌&&◌, ◌||◌, List, [], ◌∷◌, ℕ, ◌<◌, Float, Result, Ok, Err}
+use Rattle.std.proofs.Common.{lit<}
 use Rattle.std.specs.Float.{binary32}
 use Rattle.std.specs.Float.Ieee.{of_bits, neg}
+use Rattle.answers.specs.Answers.{number_of}
 use Rattle.float_laws.specs.Formula.{◌⊗◌, ◌⊘◌, ◌⊟◌, ◌⊠◌, ◌⧄◌, zero32, one32, one64}
 use Rattle.float_laws.specs.Narrow.{narrow_of, kept, some_lost}
 use Rattle.transform.specs.declared.Computed.{Computed}
 use Rattle.transform.specs.declared.Transform.{Transform}
-use Rattle.transform.specs.declared.invert.Inversion.{Inversion}
-use Rattle.transform.specs.declared.invert.Inversion.TheVariants.{Inverted, NearlySingular, NotFinite}
 use Rattle.transform.specs.declared.invert.InvDeterminant.{InvDeterminant}
-use Rattle.transform.specs.declared.invert.InvDeterminant.TheVariants.{Is, NearlyZero}
+use Rattle.transform.specs.declared.invert.Refusal.{Refusal}
+use Rattle.transform.specs.declared.invert.Refusal.TheVariants.{NearlySingular, NotFinite}
 use Rattle.transform.specs.Row.{row_of, row_numbers, translate_of}
 use Rattle.transform.specs.Kinds.{is_identity, has_scale, has_skew, is_finite, nearly_zero}
 use Rattle.transform.specs.Told.{computed_of}
 
 -- its number in docs/RULES.md, "Answer numbers", its values, the inverse in the order of `from_row`, and its flag: a refusal has none
-abbrev pub number_of_inversion : Inversion → ℕ
-number_of_inversion (Inverted c) = 0
-number_of_inversion NearlySingular = 6
-number_of_inversion NotFinite = 7
+abbrev pub number_of_refusal : Refusal → ℕ
+number_of_refusal NearlySingular = 6
+number_of_refusal NotFinite = 7
 
-abbrev pub values_of_inversion : Inversion → List Float
-values_of_inversion (Inverted c) = row_numbers c.transform
-values_of_inversion NearlySingular = []
-values_of_inversion NotFinite = []
+pub refusal_numbers : (why : Refusal) → 0 < number_of_refusal why
+refusal_numbers NearlySingular = lit< tt
+refusal_numbers NotFinite = lit< tt
 
-abbrev pub flags_of_inversion : Inversion → List Bool
-flags_of_inversion (Inverted c) = c.rounded ∷ []
-flags_of_inversion NearlySingular = []
-flags_of_inversion NotFinite = []
+abbrev pub number_of_inversion : Result Computed Refusal → ℕ
+number_of_inversion = number_of number_of_refusal
+
+abbrev pub values_of_inversion : Result Computed Refusal → List Float
+values_of_inversion (Ok c) = row_numbers c.transform
+values_of_inversion (Err why) = []
+
+abbrev pub flags_of_inversion : Result Computed Refusal → List Bool
+flags_of_inversion (Ok c) = c.rounded ∷ []
+flags_of_inversion (Err why) = []
 
 -- ---- without skew
 unfoldable pub unskewed_inverse : Transform → Transform
@@ -92,20 +97,21 @@ unfoldable pub inverse_of : Transform → Transform
 inverse_of t = cond (is_identity t) t (cond (has_skew t) (skewed_inverse t (over_determinant t)) (unskewed_inverse t))
 
 -- 7 exactly where an entry of the computed inverse is not finite
-unfoldable pub checked_of : Transform → Bool → Inversion
-checked_of inverse rounded = cond (is_finite inverse) (Inverted (computed_of inverse rounded)) NotFinite
+unfoldable pub checked_of : Transform → Bool → Result Computed Refusal
+checked_of inverse rounded = cond (is_finite inverse) (Ok (computed_of inverse rounded)) (Err NotFinite)
 
 -- 6 before 7, and for what skews alone; the flag is set exactly where one of the narrowings is not exact
-unfoldable pub invert_of : Transform → Inversion
-invert_of t = cond (has_skew t && nearly_singular t) NearlySingular (checked_of (inverse_of t) (some_lost (invert_narrows t)))
+unfoldable pub invert_of : Transform → Result Computed Refusal
+invert_of t = cond (has_skew t && nearly_singular t) (Err NearlySingular) (checked_of (inverse_of t) (some_lost (invert_narrows t)))
 
 -- ---- the steps of a skewed inverse, flagged step by step
-unfoldable pub inv_determinant : Transform → InvDeterminant
-inv_determinant t = cond (nearly_singular t) NearlyZero (Is (over_determinant t) (not (kept (determinant t))))
+unfoldable pub inv_determinant : Transform → Result InvDeterminant Refusal
+inv_determinant t =
+    cond (nearly_singular t) (Err NearlySingular) (Ok (record { value = over_determinant t; rounded = not (kept (determinant t)) }))
 
 abbrev pub scaled_told : Transform → Float → Computed
 scaled_told t inv-det = computed_of (skewed_inverse t inv-det) (some_lost (skewed_scaled t inv-det))
 
-abbrev pub skewed_inversion : Transform → InvDeterminant → Inversion
-skewed_inversion t NearlyZero = NearlySingular
-skewed_inversion t (Is inv-det rounded) = checked_of (skewed_inverse t inv-det) (rounded || some_lost (skewed_scaled t inv-det))
+abbrev pub skewed_inversion : Transform → Result InvDeterminant Refusal → Result Computed Refusal
+skewed_inversion t (Err why) = Err why
+skewed_inversion t (Ok inv) = checked_of (skewed_inverse t inv.value) (inv.rounded || some_lost (skewed_scaled t inv.value))

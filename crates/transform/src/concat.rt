@@ -53,6 +53,7 @@ impl Transform {
 }
 
 // What does b first and then a. An identity on either side leaves the other as it is.
+#[tactic(auto, unfolding(crate::specs::Product::concat_of, crate::specs::Product::concat_narrows, float_laws::specs::Narrow::some_lost))]
 fn concat(a: Transform, b: Transform) -> Computed
     ensures { result ≡ concat_told a b }
 {
@@ -66,6 +67,7 @@ fn concat(a: Transform, b: Transform) -> Computed
 }
 
 // The product of two transforms, neither of them the identity.
+#[tactic(auto, unfolding(crate::specs::Product::product_of, crate::specs::Product::product_narrows, float_laws::specs::Narrow::some_lost))]
 fn product(a: Transform, b: Transform) -> Computed
     ensures { result ≡ product_told a b }
 {
@@ -77,6 +79,7 @@ fn product(a: Transform, b: Transform) -> Computed
 }
 
 // The product where neither skews, all in f32: nothing is narrowed.
+#[tactic(auto, unfolding(crate::specs::Product::unskewed_product))]
 fn unskewed(a: Transform, b: Transform) -> Computed
     ensures { result ≡ computed_of (unskewed_product a b) false }
 {
@@ -94,6 +97,7 @@ fn unskewed(a: Transform, b: Transform) -> Computed
 }
 
 // The product where one skews: the products of entries go through f64, and the move is added in f32.
+#[tactic(auto, unfolding(crate::specs::Product::skewed_product, float_laws::specs::Narrow::some_lost, crate::specs::Told::some_rounded))]
 fn skewed(a: Transform, b: Transform) -> Computed
     ensures { result ≡ skewed_told a b }
 {

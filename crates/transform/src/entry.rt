@@ -3,9 +3,9 @@ ghost use Rattle.std.specs.Prelude.{◌≡◌, false};
 ghost use Rattle.transform.specs.Told.{computed_of, entry_of, moved_of, entries_of};
 
 use super::{Computed, Transform};
-use float_ground::{Narrowed, narrow};
+use float_ground::narrow;
 
-// A number that was narrowed, and whether that was not exact.
+// A number that was narrowed, and whether that was not exact: both are always there.
 #[derive(Clone, Copy)]
 pub struct Entry {
     pub value: f32,
@@ -14,22 +14,14 @@ pub struct Entry {
 
 impl Entry {
     // x narrowed once.
+    #[tactic(auto, using(float_ground::proofs::Losses::carried, float_ground::proofs::Losses::told))]
     pub fn of(x: f64) -> Self
         ensures { result ≡ entry_of x }
     {
-        match narrow(x) {
-            Narrowed::Exact(value) => Entry {
-                value,
-                rounded: false,
-            },
-            Narrowed::Rounded(value) => Entry {
-                value,
-                rounded: true,
-            },
-            Narrowed::ToInfinity(value) => Entry {
-                value,
-                rounded: true,
-            },
+        let narrowed = narrow(x);
+        Entry {
+            value: narrowed.value(),
+            rounded: narrowed.loss() != 0,
         }
     }
 
@@ -55,6 +47,7 @@ pub fn exactly(transform: Transform) -> Computed
 }
 
 // The transform of six entries, in the order of `from_row`, and whether one of them was rounded.
+#[tactic(auto, using(crate::proofs::Entries::joined), unfolding(crate::specs::Told::some_rounded))]
 pub fn together(sx: Entry, ky: Entry, kx: Entry, sy: Entry, tx: Entry, ty: Entry) -> Computed
     ensures { result ≡ entries_of sx ky kx sy tx ty }
 {

@@ -39,6 +39,7 @@ impl Transform {
     }
 
     // Whether it has these parts and no others.
+    #[tactic(auto, unfolding(crate::specs::Kinds::has_only))]
     fn has_only(self, scale: bool, skew: bool, translate: bool) -> bool
         ensures { result ≡ has_only scale skew translate self }
     {
@@ -76,6 +77,7 @@ impl Transform {
     }
 
     // Whether it scales or moves, and does not skew.
+    #[tactic(auto, unfolding(crate::specs::Kinds::is_scale_translate))]
     pub fn is_scale_translate(self) -> bool
         ensures { result ≡ is_scale_translate self }
     {
@@ -83,6 +85,7 @@ impl Transform {
     }
 
     // Whether all six numbers are finite.
+    #[tactic(auto, unfolding(crate::specs::Kinds::is_finite))]
     pub fn is_finite(self) -> bool
         ensures { result ≡ is_finite self }
     {
@@ -95,6 +98,7 @@ impl Transform {
     }
 
     // How much it scales, across and up.
+    #[tactic(auto, unfolding(crate::specs::Kinds::scales_of))]
     pub fn get_scale(self) -> Scale
         ensures { result ≡ scales_of self }
     {

@@ -11,7 +11,7 @@ mod kinds;
 mod map;
 mod scalar;
 
-pub use invert::Inversion;
+pub use invert::Refusal;
 pub use kinds::Scale;
 
 // A point (x, y) goes to (sx * x + kx * y + tx, ky * x + sy * y + ty).
@@ -25,7 +25,7 @@ pub struct Transform {
     pub ty: f32,
 }
 
-// A transform that was computed from others, and whether some narrowing to f32 on the way was not exact.
+// A transform that was computed from others, and whether some narrowing to f32 on the way was not exact: both are always there.
 #[derive(Clone, Copy)]
 pub struct Computed {
     pub transform: Transform,
@@ -65,6 +65,7 @@ impl Transform {
     }
 
     // Moves by (tx, ty).
+    #[tactic(auto, unfolding(crate::specs::Row::translate_of))]
     pub fn from_translate(tx: f32, ty: f32) -> Self
         ensures { result ≡ translate_of tx ty }
     {
@@ -72,6 +73,7 @@ impl Transform {
     }
 
     // Scales by sx across and by sy up.
+    #[tactic(auto, unfolding(crate::specs::Row::scale_of))]
     pub fn from_scale(sx: f32, sy: f32) -> Self
         ensures { result ≡ scale_of sx sy }
     {

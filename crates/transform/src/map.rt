@@ -7,6 +7,7 @@ use point::Point;
 
 impl Transform {
     // Where the point p goes.
+    #[tactic(auto, using(crate::proofs::Skewed::skew_first))]
     pub fn map_point(self, p: Point) -> Point
         ensures { result ≡ map_point self p }
     {
