@@ -31,6 +31,7 @@ pub fn nz_between_exact(a: f32, b: f32, c: f32) -> bool
 }
 
 // Both halves, seven numbers each.
+#[tactic(auto, unfolding(point::specs::Numbers::flat))]
 fn numbers(h: Halves) -> [f32; 14]
     ensures { result ≡ half_numbers h }
 {

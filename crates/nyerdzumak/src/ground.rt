@@ -34,6 +34,7 @@ pub fn nz_widen(x: f32) -> f64
     float_ground::widen(x)
 }
 
+#[tactic(auto, using(float_ground::proofs::Losses::carried))]
 pub fn nz_narrow(x: f64) -> f32
     ensures { result ≡ narrow_of x }
 {
@@ -41,6 +42,7 @@ pub fn nz_narrow(x: f64) -> f32
 }
 
 // The same, and what was lost: 0 for nothing, 1 where it was rounded, 2 where it is gone to infinity.
+#[tactic(auto, using(float_ground::proofs::Losses::carried))]
 pub fn nz_narrow_told(x: f64, loss: &mut u32) -> f32
     ensures value { result ≡ narrow_of x }
     ensures loss { loss.new ≡ loss_of (narrowed_of x) }

@@ -11,6 +11,7 @@ use point::Point;
 use quads::Refusal;
 
 // Stores a point, if there is one; and the answer's number.
+#[tactic(auto, unfolding(point::specs::Numbers::flat))]
 fn give(answer: Result<Point, Refusal>, out: &mut [f32; 2]) -> u32
     ensures value { result ≡ number_of_point answer }
     ensures out { out.new ≡ filled_or out.old (values_of_point answer) }

@@ -161,6 +161,7 @@ pub fn nz_transform_invert(m: &[f32; 6], out: &mut [f32; 6], rounded: &mut bool)
 }
 
 // Maps one point, x and y, where it stands.
+#[tactic(auto, unfolding(point::specs::Numbers::flat))]
 pub fn nz_transform_map_point(m: &[f32; 6], point: &mut [f32; 2])
     ensures { point.new ≡ flat (map_point (matrix_of m.now) (point_at point.old 0) ∷ []) }
 {
