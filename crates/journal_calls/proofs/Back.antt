@@ -1,4 +1,5 @@
 -- What `write_from` gives of an answer; and what it wrote `read_into` reads. Assumes nothing.
+use Rattle.std.specs.Prelude.{Result, Ok, Err}
 use mathlib.Core.Path.{◌≡◌, refl, sym, ap, ◌∙◌}
 use mathlib.Core.Bool.{Bool, true, false, cond}
 use mathlib.Core.List.{List}
@@ -10,10 +11,11 @@ use lib.Seq.{sets}
 use borrow.Author.Tests.{eqb-false, ne_eqb}
 use Rattle.records.specs.declared.Found.{Found}
 use Rattle.records.specs.declared.Found.TheVariants.{Whole}
+use Rattle.records.specs.declared.Refusal.{Refusal}
 use Rattle.records.specs.declared.Refusal.TheVariants.{BufferTooShort, UnknownKind}
-use Rattle.records.specs.declared.Written.{Written}
-use Rattle.records.specs.declared.Written.TheVariants.{To, Refused}
-use Rattle.records.specs.Answers.{number_of_refusal, number_of_found, what_of_found, kind_of_found, words_of_found, next_of_found, number_of_written, values_of_written}
+use Rattle.records.specs.declared.Refused.{Refused}
+use Rattle.records.specs.Answers.{number_of_refusal, number_of_found, what_of_found, kind_of_found, words_of_found, next_of_found}
+use Rattle.answers.specs.Answers.{number_of, value_or}
 use Rattle.records.specs.Reading.{read_of}
 use Rattle.records.specs.Record.{words_of, count_of, record_of, bytes_for, bytes_of, words_over}
 use Rattle.records.specs.Writing.{stored_answer, stored_over, payload, bytes_with, Payload, refuse_words, words_answer, words_written}
@@ -22,28 +24,28 @@ use Rattle.records.proofs.Together.{Together, together}
 use Rattle.journal_calls.specs.Calls.{first_or, WrittenFrom, WrittenIsRead}
 
 -- ---- what is given of an answer, by the tests that chose it
-number_of : (b c : Bool) (x : ℕ) → number_of_written (cond b (Refused UnknownKind) (cond c (To x) (Refused BufferTooShort))) ≡ cond b 18 (cond c 0 2)
-number_of true c x = refl
-number_of false true x = refl
-number_of false false x = refl
+number_is : (b c : Bool) (x : ℕ) → number_of number_of_refusal (cond b (Err UnknownKind) (cond c (Ok x) (Err BufferTooShort))) ≡ cond b 18 (cond c 0 2)
+number_is true c x = refl
+number_is false true x = refl
+number_is false false x = refl
 
-offset_of : (b c : Bool) (to x : ℕ)
-    → first_or to (values_of_written (cond b (Refused UnknownKind) (cond c (To x) (Refused BufferTooShort)))) ≡ cond b to (cond c x to)
-offset_of true c to x = refl
-offset_of false true to x = refl
-offset_of false false to x = refl
+offset_is : (b c : Bool) (to x : ℕ) → value_or to (cond b (Err UnknownKind) (cond c (Ok x) (Err BufferTooShort))) ≡ cond b to (cond c x to)
+offset_is true c to x = refl
+offset_is false true to x = refl
+offset_is false false to x = refl
 
-pub given : (l l₁ : List ℕ) (at k : ℕ) (ws : List ℕ) (n to to₁ : ℕ) (w : Written) → w ≡ words_answer l at k ws → l₁ ≡ words_written l at k ws → Payload k ws
-    → n ≡ number_of_written w → to₁ ≡ first_or to (values_of_written w) → WrittenFrom l l₁ at k ws n to to₁
+pub given : (l l₁ : List ℕ) (at k : ℕ) (ws : List ℕ) (n to to₁ : ℕ) (w : Result ℕ Refusal)
+    → w ≡ words_answer l at k ws → l₁ ≡ words_written l at k ws → Payload k ws
+    → n ≡ number_of number_of_refusal w → to₁ ≡ value_or to w → WrittenFrom l l₁ at k ws n to to₁
 unfolding words_answer
 given l l₁ at k ws n to to₁ w answer journal words number next =
     let b = eqb (count_of k) 0 in
     let x = at + length (bytes_with k ws) in
     let c = leb x (length l) in
     record {
-      number = number ∙ ap number_of_written answer ∙ number_of b c x;
+      number = number ∙ ap (number_of number_of_refusal) answer ∙ number_is b c x;
       journal = journal;
-      next = next ∙ ap (λ (y : Written). first_or to (values_of_written y)) answer ∙ offset_of b c to x;
+      next = next ∙ ap (value_or to) answer ∙ offset_is b c to x;
       words = words;
     }
 
@@ -68,14 +70,14 @@ written_is_read-again l l₁ at k ws old to n w w₁ j k₁ vs vs₁ to₁ a g =
     let t : Together k (payload k ws) = together k (payload k ws) d.0 a.words.there a.words.below in
     let b : bytes_of r ≡ x = ap (λ (y : ℕ). bytes_for y (words_of r)) t.kind ∙ ap (bytes_for k) t.words in
     let next : to ≡ at + length x = a.next ∙ simp (some, d.1) in
-    let made : stored_answer l at (bytes_of r) ≡ To to = ap (stored_answer l at) b ∙ simp d.1 (ap To (sym next)) in
+    let made : stored_answer l at (bytes_of r) ≡ Ok to = ap (stored_answer l at) b ∙ simp d.1 (ap Ok (sym next)) in
     let stored : l₁ ≡ sets l at x = a.journal ∙ simp (some, d.1) in
     let journal : l₁ ≡ stored_over l at (bytes_of r) = stored ∙ sym (ap (stored_over l at) b ∙ simp d.1) in
-    let found : read_of l₁ at ≡ Whole r to = ap (λ (s : List ℕ). read_of s at) journal ∙ written_is_read l at to r t.fits made in
+    let found : read_of l₁ at ≡ Ok (Whole r to) = ap (λ (s : List ℕ). read_of s at) journal ∙ written_is_read l at to r t.fits made in
     record {
       number = g.number ∙ ap number_of_found found;
-      what = g.what ∙ ap (λ (f : Found). first_or w (what_of_found f)) found;
-      kind = g.kind ∙ ap (λ (f : Found). first_or j (kind_of_found f)) found ∙ t.kind;
-      words = g.words ∙ ap (λ (f : Found). words_of_found f vs) found ∙ ap (sets vs 0) t.words;
+      what = g.what ∙ ap (λ (f : Result Found Refused). first_or w (what_of_found f)) found;
+      kind = g.kind ∙ ap (λ (f : Result Found Refused). first_or j (kind_of_found f)) found ∙ t.kind;
+      words = g.words ∙ ap (λ (f : Result Found Refused). words_of_found f vs) found ∙ ap (sets vs 0) t.words;
       next = g.next ∙ ap (next_of_found at) found;
     }

@@ -3,10 +3,10 @@
 #![tactic(auto)]
 
 ghost use Rattle.std.specs.Prelude.{◌≡◌};
-ghost use Rattle.records.specs.Answers.{number_of_found, what_of_found, kind_of_found, words_of_found, next_of_found, number_of_written, values_of_written, number_of_ended, place_of_ended};
+ghost use Rattle.records.specs.Answers.{number_of_found, what_of_found, kind_of_found, words_of_found, next_of_found};
 ghost use Rattle.journal_calls.specs.Calls.{first_or, ReadInto, WrittenFrom, EndInto};
 
-use records::{Ended, Found, Written};
+use records::{Found, Refused};
 
 // What is told of an offset where a whole record stands,
 pub const JOURNAL_RECORD: u32 = 0;
@@ -19,7 +19,7 @@ pub const JOURNAL_SHORT: u32 = 2;
 
 // Stores what stands at an offset, and where to go on; and the answer's number.
 fn give_found(
-    found: Found,
+    found: Result<Found, Refused>,
     at: usize,
     what: &mut u32,
     kind: &mut u32,
@@ -32,30 +32,24 @@ fn give_found(
     ensures words { words.new ≡ words_of_found found words.old }
     ensures next { next.new ≡ next_of_found at found }
 {
-    let number = found.number();
     match found {
-        Found::Whole(r, behind) => {
+        Ok(Found::Whole(r, behind)) => {
             *what = JOURNAL_RECORD;
-            *kind = r.kind();
+            *kind = r.kind().number();
             r.store_words(words);
             *next = behind;
-            number
         }
-        Found::End => {
+        Ok(Found::End) => {
             *what = JOURNAL_END;
             *next = at;
-            number
         }
-        Found::Short => {
+        Ok(Found::Short) => {
             *what = JOURNAL_SHORT;
             *next = at;
-            number
         }
-        Found::Refused(_, place) => {
-            *next = place;
-            number
-        }
+        Err(refused) => *next = refused.at,
     }
+    answers::number(found)
 }
 
 // What stands at an offset of a journal: a record, with its kind and its words, the end, or a record that is cut off. `next` is
@@ -74,21 +68,6 @@ pub fn read_into(
     give_found(records::read(journal, at), at, what, kind, words, next)
 }
 
-// Stores the offset behind the record, if it was written; and the answer's number.
-fn give_written(answer: Written, next: &mut usize) -> u32
-    ensures value { result ≡ number_of_written answer }
-    ensures next { next.new ≡ first_or next.old (values_of_written answer) }
-{
-    let number = answer.number();
-    match answer {
-        Written::To(behind) => {
-            *next = behind;
-            number
-        }
-        Written::Refused(_) => number,
-    }
-}
-
 // Writes the record of a kind and its words at an offset of a journal, where there is such a kind and it fits.
 pub fn write_from(
     journal: &mut [u8],
@@ -99,25 +78,7 @@ pub fn write_from(
 ) -> u32
     ensures { WrittenFrom journal.old journal.new at kind words.now result next.old next.new }
 {
-    give_written(records::write_words(journal, at, kind, words), next)
-}
-
-// Stores the place that was found, or that of a refused record; and the answer's number.
-fn give_end(answer: Ended, end: &mut usize) -> u32
-    ensures value { result ≡ number_of_ended answer }
-    ensures end { end.new ≡ place_of_ended answer }
-{
-    let number = answer.number();
-    match answer {
-        Ended::At(place) => {
-            *end = place;
-            number
-        }
-        Ended::Refused(_, place) => {
-            *end = place;
-            number
-        }
-    }
+    answers::give(records::write_words(journal, at, kind, words), next)
 }
 
 // The offset behind the last whole record of a journal, read from its start: where to write on. A refused record is no such
@@ -125,5 +86,10 @@ fn give_end(answer: Ended, end: &mut usize) -> u32
 pub fn end_into(journal: &[u8], end: &mut usize) -> u32
     ensures { EndInto journal.now result end.new }
 {
-    give_end(records::find_end(journal), end)
+    let answer = records::find_end(journal);
+    *end = match answer {
+        Ok(place) => place,
+        Err(refused) => refused.at,
+    };
+    answers::number(answer)
 }

@@ -1,4 +1,5 @@
 -- A journal of good records, whole, cut anywhere, and with something behind it. Assumes nothing.
+use Rattle.std.specs.Prelude.{Ok}
 use mathlib.Core.Path.{◌≡◌, refl, sym, ap, ◌∙◌}
 use mathlib.Core.Bool.{Bool, true, false, cond}
 use mathlib.Core.List.{List, [], ◌∷◌, ◌++◌, append_assoc, append-nil}
@@ -40,11 +41,11 @@ journal_then (r ∷ rs) t fit =
     ∙ ap (λ (n : ℕ). behind (r ∷ rs) n (read_all t)) (sym (length-append b js))
 
 -- nothing, and a record that is not whole
-pub read_nothing : read_all [] ≡ none 0 End
+pub read_nothing : read_all [] ≡ none 0 (Ok End)
 unfolding read_all
 read_nothing = read_stop [] 0 true (sym (at_end [] 0 (omega arith)))
 
-cut_record : (r : Record) → Fits r → (m : ℕ) → m < length (bytes_of r) → read_all (take m (bytes_of r)) ≡ none 0 (cond (eqb m 0) End Short)
+cut_record : (r : Record) → Fits r → (m : ℕ) → m < length (bytes_of r) → read_all (take m (bytes_of r)) ≡ none 0 (Ok (cond (eqb m 0) End Short))
 unfolding read_all
 cut_record r fit m h = read_stop (take m (bytes_of r)) 0 (eqb m 0) (cut_first r fit m h)
 
@@ -67,7 +68,7 @@ cut_from at (r ∷ rs) n fit = go (λ k m. cut_from k rs m fit.1) (leb (length (
 
     go : ((k m : ℕ) → behind [] k (read_all (take m js)) ≡ whole_from k rs m) → (c : Bool) → leb (length b) n ≡ c
         → behind [] at (read_all (take n (b ++ js)))
-        ≡ cond c (more r (whole_from (at + length b) rs (n - length b))) (none at (cond (eqb n 0) End Short))
+        ≡ cond c (more r (whole_from (at + length b) rs (n - length b))) (none at (Ok (cond (eqb n 0) End Short)))
     go on true e =
         let m = n - length b in
         ap (λ (l : List ℕ). behind [] at (read_all l)) (take_past b js n (leb-true (length b) n e))
@@ -100,9 +101,9 @@ fit_next [] b r fit = fit.0
 fit_next (x ∷ a) b r fit = fit_next a b r fit.1
 
 -- records, and then the end or a record that is cut off
-up_to : (rs : List Record) (at : ℕ) (b : Bool) → behind rs at (none 0 (cond b End Short)) ≡ exactly rs at (cond b End Short)
+up_to : (rs : List Record) (at : ℕ) (b : Bool) → behind rs at (none 0 (Ok (cond b End Short))) ≡ exactly rs at (Ok (cond b End Short))
 up_to rs at b =
-    ap (λ (l : List Record). record { records = l; place = (behind [] at (none 0 (cond b End Short))).place; stop = moved at (cond b End Short) }) (append-nil rs)
+    ap (λ (l : List Record). record { records = l; place = (behind [] at (none 0 (Ok (cond b End Short)))).place; stop = moved at (Ok (cond b End Short)) }) (append-nil rs)
     ∙ ap (λ (a : Reading). exactly rs a.place a.stop) (behind_stop at b)
 
 pub cut_in_a_record : CutInARecord

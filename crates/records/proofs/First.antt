@@ -1,4 +1,5 @@
 -- A record at the start of some bytes: read back where all of it is there, and short where it is cut. Assumes nothing.
+use Rattle.std.specs.Prelude.{Ok}
 use mathlib.Core.Path.{◌≡◌, refl, sym, ap, ◌∙◌}
 use mathlib.Core.Bool.{Bool, true, false, cond}
 use mathlib.Core.List.{List, [], ◌∷◌, ◌++◌}
@@ -6,15 +7,14 @@ use Prim.Native.Nat.{ℕ, ◌+◌, ◌*◌, ◌≤◌, ◌<◌}
 use native.Mathlib.Omega.{arith}
 use lib.Dec.{eqb, ltb}
 use lib.ListN.{length, take, drop, length-append}
-use lib.Seq.{length-take-le, take_at, sets, sets-eq}
-use borrow.Author.Tests.{eqb-true, eqb-false, ltb-true, ltb-false, ne_eqb}
+use lib.Seq.{length-take-le, take_at, sets-eq}
+use borrow.Author.Tests.{eqb-true, eqb-false, ltb-true, ltb-false}
 use Rattle.records.specs.declared.Record.{Record}
 use Rattle.records.specs.declared.Record.TheVariants.{Conic, Transform, Correction}
 use Rattle.records.specs.declared.Found.TheVariants.{Whole, End, Short}
 use Rattle.records.specs.Numbers.{two, four, fours, half, word, words_at, AllBelow}
 use Rattle.records.specs.Reading.{read_of}
 use Rattle.records.specs.Record.{kind_of, words_of, count_of, record_of, length_of, bytes_for, bytes_of, Fits, words_over}
-use Rattle.records.specs.Writing.{stored_answer, stored_over, write_answer, written_over, bytes_with, words_answer, words_written}
 use Rattle.records.proofs.Judged.{at_end, no_length, no_kind, cut_off, whole}
 use Rattle.records.proofs.Patterns.{word-four, words_drop, word-take, half-take, length_is}
 use Rattle.records.proofs.Signed.{pattern_below, signed_pattern}
@@ -84,7 +84,7 @@ module _ (r : Record) (fit : Fits r) where
   head_size t = sym (word-four (length_of n) t (omega (arith, length_is n, k.few)) ∙ length_is n)
 
   -- all of it is there
-  pub read_first : (q : List ℕ) → read_of (bytes_of r ++ q) 0 ≡ Whole r (length (bytes_of r))
+  pub read_first : (q : List ℕ) → read_of (bytes_of r ++ q) 0 ≡ Ok (Whole r (length (bytes_of r)))
   unfolding bytes_of bytes_for four two
   read_first q =
       let f = length_of n in
@@ -97,10 +97,10 @@ module _ (r : Record) (fit : Fits r) where
       sym (ap (λ (x : ℕ). record_of (kind_of r) (words_at s 6 x)) (sym k.count) ∙ ap (record_of (kind_of r)) (head_words f (kind_of r) (words_of r) q k.below) ∙ k.back) in
       let z : length (bytes_of r) ≡ 0 + (4 + (2 + 4 * n)) = omega (arith, length-bytes) in
       sym (whole s 0 (omega arith) (omega arith) (2 + 4 * n) size (omega arith) (omega arith) (kind_of r) n kind k.count k.some refl r (omega arith) words)
-      ∙ ap (Whole r) (sym z)
+      ∙ ap (λ (x : ℕ). Ok (Whole r x)) (sym z)
 
   -- its first m bytes are not all of it
-  pub cut_first : (m : ℕ) → m < length (bytes_of r) → read_of (take m (bytes_of r)) 0 ≡ cond (eqb m 0) End Short
+  pub cut_first : (m : ℕ) → m < length (bytes_of r) → read_of (take m (bytes_of r)) 0 ≡ Ok (cond (eqb m 0) End Short)
   unfolding bytes_of bytes_for
   cut_first m h = go (eqb m 0) refl
     where
@@ -116,36 +116,27 @@ module _ (r : Record) (fit : Fits r) where
       kind : 6 ≤ m → kind_of r ≡ half s 4
       kind i = sym (half-take m (bytes_of r) 4 i ∙ head_kind (length_of n) (kind_of r) (fours (words_of r)) k.small)
 
-      third : 4 ≤ m → (b : Bool) → ltb m 6 ≡ b → Short ≡ read_of s 0
+      third : 4 ≤ m → (b : Bool) → ltb m 6 ≡ b → Ok Short ≡ read_of s 0
       third i true e = no_kind s 0 (omega (arith, l)) (omega (arith, l)) (2 + 4 * n) (size i) (omega arith) (omega (arith, l, ltb-true m 6 e))
       third i false e =
           cut_off s 0 (omega (arith, l)) (omega (arith, l)) (2 + 4 * n) (size i) (omega arith) (omega (arith, l, ltb-false m 6 e)) (kind_of r) n
           (kind (ltb-false m 6 e)) k.count k.some refl (omega (arith, l, length-bytes))
 
-      next : 0 < m → (b : Bool) → ltb m 4 ≡ b → Short ≡ read_of s 0
+      next : 0 < m → (b : Bool) → ltb m 4 ≡ b → Ok Short ≡ read_of s 0
       next i true e = no_length s 0 (omega (arith, l)) (omega (arith, l, ltb-true m 4 e))
       next i false e = third (ltb-false m 4 e) (ltb m 6) refl
 
-      go : (b : Bool) → eqb m 0 ≡ b → read_of s 0 ≡ cond b End Short
+      go : (b : Bool) → eqb m 0 ≡ b → read_of s 0 ≡ Ok (cond b End Short)
       go true e = sym (at_end s 0 (omega (arith, l, eqb-true m 0 e)))
       go false e = sym (next (omega (arith, eqb-false m 0 e)) (ltb m 4) refl)
 
--- ---- written by its kind and its words
-module _ (l z : List ℕ) (at : ℕ) (r : Record) (fit : Fits r) (k : ℕ) (ws : List ℕ) (kind : k ≡ kind_of r) (words : ws ≡ words_over r z) (seven : length z ≡ 7) where
-  same_bytes : bytes_with k ws ≡ bytes_of r
-  unfolding bytes_of words_over
-  same_bytes =
-      let n = known r fit in
-      let front : take (count_of (kind_of r)) (sets z 0 (words_of r)) ≡ words_of r =
-      ap (take (count_of (kind_of r))) (sets-eq (words_of r) z 0 (omega (arith, n.few)))
-      ∙ take_at (words_of r) (drop (0 + length (words_of r)) z) (count_of (kind_of r)) n.count in
-      ap (λ (x : ℕ). bytes_for x (take (count_of x) ws)) kind
-      ∙ ap (λ (x : List ℕ). bytes_for (kind_of r) (take (count_of (kind_of r)) x)) words
-      ∙ ap (bytes_for (kind_of r)) front
-
-  known_kind : eqb (count_of k) 0 ≡ false
-  known_kind = ne_eqb (count_of k) 0 (λ e. (known r fit).some ((known r fit).count ∙ sym (ap count_of kind) ∙ e))
-
-  pub by_words : (words_answer l at k ws ≡ write_answer l at r) × (words_written l at k ws ≡ written_over l at r)
-  unfolding words_answer words_written stored_answer stored_over
-  by_words = (simp known_kind (ap (stored_answer l at) same_bytes), simp known_kind (ap (stored_over l at) same_bytes))
+-- ---- its kind, and as many words as that has of seven over which its own are stored
+pub bytes_by_words : (z : List ℕ) (r : Record) → Fits r → (k n : ℕ) (ws : List ℕ) → k ≡ kind_of r → n ≡ count_of k → ws ≡ words_over r z → length z ≡ 7
+    → bytes_for k (take n ws) ≡ bytes_of r
+unfolding bytes_of words_over
+bytes_by_words z r fit k n ws kind count words seven =
+    let m = known r fit in
+    let z' : n ≡ length (words_of r) = count ∙ ap count_of kind ∙ sym m.count in
+    let front : take n ws ≡ words_of r =
+    ap (take n) (words ∙ sets-eq (words_of r) z 0 (omega (arith, m.few))) ∙ take_at (words_of r) (drop (0 + length (words_of r)) z) n (sym z') in
+    ap (λ (x : ℕ). bytes_for x (take n ws)) kind ∙ ap (bytes_for (kind_of r)) front

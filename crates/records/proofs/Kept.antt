@@ -1,5 +1,6 @@
 -- What is read of any bytes is what stands before the place where reading stopped; so it is restored by writing, and a pad
 -- writes on there. Assumes nothing.
+use Rattle.std.specs.Prelude.{Result, Ok, Err}
 use mathlib.Core.Path.{◌≡◌, refl, sym, ap, ◌∙◌, subst}
 use mathlib.Core.Bool.{Bool, true, false}
 use mathlib.Core.List.{List, [], ◌∷◌, ◌++◌, append-nil}
@@ -9,9 +10,9 @@ use lib.Dec.{ltb}
 use lib.ListN.{length, get_or, take, drop, length-append, length-take, length-drop, get_or-eq_default}
 use lib.Seq.{get_or-take, get_or-drop, take-add, take-length, take-take, take_at, sets, sets-eq, length-sets}
 use borrow.Author.Tests.{ltb-true, ltb-false, le-leb}
-use Rattle.records.specs.declared.Ended.TheVariants as E
 use Rattle.records.specs.declared.Found.{Found}
-use Rattle.records.specs.declared.Found.TheVariants.{Whole, End, Short, Refused}
+use Rattle.records.specs.declared.Refused.{Refused}
+use Rattle.records.specs.declared.Found.TheVariants.{Whole, End, Short}
 use Rattle.records.specs.declared.Record.{Record}
 use Rattle.records.specs.Laws.{moved, behind, exactly, Restored, RestoredByWriting, GoodIsRestored, BothAreRead, WritesOn}
 use Rattle.records.specs.Numbers.{Bytes}
@@ -30,24 +31,24 @@ record Told (s : List ℕ) (a : Reading) : Type 0 where
   pub bytes : journal_of a.records ≡ take a.place s
   pub fit : AllFit a.records
   pub inside : a.place ≤ length s
-  pub ends : a.stop ≡ End → a.place ≡ length s
+  pub ends : a.stop ≡ Ok End → a.place ≡ length s
 
-no_records : (s : List ℕ) (f : Found) → (f ≡ End → 0 ≡ length s) → Told s (none 0 f)
+no_records : (s : List ℕ) (f : Result Found Refused) → (f ≡ Ok End → 0 ≡ length s) → Told s (none 0 f)
 unfolding journal_of AllFit
 no_records s f e = record { bytes = refl; fit = tt; inside = omega arith; ends = e }
 
-moved_end : (d : ℕ) (f : Found) → moved d f ≡ End → f ≡ End
-moved_end d (Whole r next) e = cc
-moved_end d End e = refl
-moved_end d Short e = cc
-moved_end d (Refused why at) e = cc
+moved_end : (d : ℕ) (f : Result Found Refused) → moved d f ≡ Ok End → f ≡ Ok End
+moved_end d (Ok (Whole r next)) e = cc
+moved_end d (Ok End) e = refl
+moved_end d (Ok Short) e = cc
+moved_end d (Err bad) e = cc
 
 rest_bytes : (s : List ℕ) (n : ℕ) → Bytes s → Bytes (drop n s)
 unfolding Bytes
 rest_bytes s n h i = let e = get_or-drop n s i 0 in omega (arith, h (n + i), e)
 
 -- a record, and what is known of the rest
-one_more : (s : List ℕ) (r : Record) (next : ℕ) (a : Reading) → Bytes s → read_of s 0 ≡ Whole r next → Told (drop next s) a → Told s (more r (behind [] next a))
+one_more : (s : List ℕ) (r : Record) (next : ℕ) (a : Reading) → Bytes s → read_of s 0 ≡ Ok (Whole r next) → Told (drop next s) a → Told s (more r (behind [] next a))
 unfolding journal_of AllFit
 one_more s r next a h e t =
     let z : next - 0 ≡ next = omega arith in
@@ -68,14 +69,14 @@ unfolding read_all
 told_up_to zero s h b = absurd (omega arith)
 told_up_to (suc g) s h b = go (λ t i c. told_up_to g t i c) (read_of s 0) refl
   where
-    go : ((t : List ℕ) → length t < g → Bytes t → Told t (read_all t)) → (a : Found) → read_of s 0 ≡ a → Told s (read_from s 0)
-    go on (Whole r next) e =
+    go : ((t : List ℕ) → length t < g → Bytes t → Told t (read_all t)) → (a : Result Found Refused) → read_of s 0 ≡ a → Told s (read_from s 0)
+    go on (Ok (Whole r next)) e =
         let d : length (drop next s) < g = omega (arith, length-drop next s, forward s 0 r next e) in
         subst (Told s) (sym (read_more s 0 r next e ∙ ap (more r) (read_rest s next)))
         (one_more s r next (read_all (drop next s)) b e (on (drop next s) d (rest_bytes s next b)))
-    go on End e = subst (Told s) (sym (read_end s 0 e)) (no_records s End (λ _. omega (arith, none_left s 0 e)))
-    go on Short e = subst (Told s) (sym (read_short s 0 e)) (no_records s Short (λ z. cc))
-    go on (Refused why at) e = subst (Told s) (sym (read_refused s 0 why at e)) (no_records s (Refused why at) (λ z. cc))
+    go on (Ok End) e = subst (Told s) (sym (read_end s 0 e)) (no_records s (Ok End) (λ _. omega (arith, none_left s 0 e)))
+    go on (Ok Short) e = subst (Told s) (sym (read_short s 0 e)) (no_records s (Ok Short) (λ z. cc))
+    go on (Err bad) e = subst (Told s) (sym (read_refused s 0 bad e)) (no_records s (Err bad) (λ z. cc))
 
 told : (s : List ℕ) → Bytes s → Told s (read_all s)
 told s b = told_up_to (suc (length s)) s (omega arith) b
@@ -84,7 +85,7 @@ pub restored : Restored
 restored s b = (told s b).bytes
 
 -- where it stopped at the end
-all_of_it : (s : List ℕ) → Bytes s → (read_all s).stop ≡ End → journal_of (read_all s).records ≡ s
+all_of_it : (s : List ℕ) → Bytes s → (read_all s).stop ≡ Ok End → journal_of (read_all s).records ≡ s
 all_of_it s b e = (told s b).bytes ∙ ap (λ (n : ℕ). take n s) ((told s b).ends e) ∙ take-length s
 
 pub both_are_read : BothAreRead
@@ -122,11 +123,9 @@ good_is_restored rs l fit h =
 
 -- ---- writing on
 -- the place where reading stopped, unless that is a refused record
-stopped_at : (place at : ℕ) (f : Found) → end_at place f ≡ E.At at → place ≡ at
-stopped_at place at (Whole r next) e = cc
-stopped_at place at End e = cc
-stopped_at place at Short e = cc
-stopped_at place at (Refused why k) e = let z : ◌≡◌ {A = ℕ} 0 1 = cc in absurd (omega arith)
+stopped_at : (place at : ℕ) (f : Result Found Refused) → end_at place f ≡ Ok at → place ≡ at
+stopped_at place at (Ok found) e = cc
+stopped_at place at (Err bad) e = cc
 
 part_bytes : (l : List ℕ) (n : ℕ) → Bytes l → Bytes (take n l)
 unfolding Bytes
@@ -161,4 +160,4 @@ writes_on l n at next r b fit e made =
     ∙ length-append (take at l) (bytes_of r)
     ∙ ap (λ (k : ℕ). k + length (bytes_of r)) (before l (bytes_of r) at next made)
     ∙ sym (to l (bytes_of r) at next made) in
-    ap read_all j ∙ uncut rs (fit_one a.records r t.fit fit) ∙ ap (λ (k : ℕ). exactly rs k End) z
+    ap read_all j ∙ uncut rs (fit_one a.records r t.fit fit) ∙ ap (λ (k : ℕ). exactly rs k (Ok End)) z

@@ -1,12 +1,13 @@
 -- Numbers to bytes and back: what is read where a number was stored is the number, and what is stored where it was read is
 -- the bytes. Assumes nothing.
-use mathlib.Core.Path.{◌≡◌, refl, ap, ◌∙◌}
+use mathlib.Core.Path.{◌≡◌, refl, sym, ap, ◌∙◌}
 use mathlib.Core.List.{List, [], ◌∷◌, ◌++◌}
 use Prim.Native.Nat.{ℕ, zero, suc, ◌+◌, ◌*◌, ◌/◌, ◌%◌, ◌≤◌, ◌<◌}
 use native.Mathlib.Omega.{arith}
 use native.Mathlib.Nat.{div-div-eq-div-mul, mod-eq_of_lt}
-use lib.ListN.{length, get_or, take, drop, length-append}
-use lib.Seq.{get_or-take, get_or-drop}
+use lib.ListN.{length, get_or, take, drop, set, length-append}
+use lib.Seq.{get_or-take, get_or-drop, take_all}
+use Rattle.std.proofs.lemmas.List.{take_more_set}
 use Rattle.records.specs.Numbers.{two, four, fours, half, word, words_at, AllBelow}
 use Rattle.records.specs.Record.{length_of}
 
@@ -44,10 +45,6 @@ word-four w q h =
     let f : w % 256 + 256 * (w / 256) ≡ w = omega arith in
     omega arith
 
-pub half_two : (k : ℕ) (q : List ℕ) → k < 65536 → half (two k ++ q) 0 ≡ k
-unfolding half two
-half_two k q h = omega arith
-
 -- ---- behind a prefix, and in a part
 pub word-drop : (s : List ℕ) (d at : ℕ) → word (drop d s) at ≡ word s (d + at)
 unfolding word
@@ -68,6 +65,25 @@ words_drop s d at (suc n) =
     let e : d + (at + 4) ≡ d + at + 4 = omega arith in
     ap (λ (w : ℕ). w ∷ words_at (drop d s) (at + 4) n) (word-drop s d at)
     ∙ ap (λ (l : List ℕ). word s (d + at) ∷ l) (words_drop s d (at + 4) n ∙ ap (λ (k : ℕ). words_at s k n) e)
+
+-- one word more, behind the others
+pub words_next : (s : List ℕ) (at n : ℕ) → words_at s at (n + 1) ≡ words_at s at n ++ (word s (at + 4 * n) ∷ [])
+unfolding words_at
+words_next s at zero = let z : at + 4 * 0 ≡ at = omega arith in ap (λ (k : ℕ). word s k ∷ []) (sym z)
+words_next s at (suc n) =
+    let y : suc n + 1 ≡ suc (n + 1) = omega arith in
+    let z : at + 4 + 4 * n ≡ at + 4 * suc n = omega arith in
+    ap (λ (k : ℕ). words_at s at k) y
+    ∙ ap (λ (l : List ℕ). word s at ∷ l) (words_next s (at + 4) n ∙ ap (λ (k : ℕ). words_at s (at + 4) n ++ (word s k ∷ [])) z)
+
+-- words that are put one after the other, each as it stands there
+pub put_next : (s : List ℕ) (at i next : ℕ) (ws : List ℕ) (w : ℕ) → i < length ws → next ≡ at + 4 * i → w ≡ word s next → take i ws ≡ words_at s at i
+    → take (i + 1) (set ws i w) ≡ words_at s at (i + 1)
+put_next s at i next ws w h e is so_far =
+    take_more_set ws i w h ∙ ap (λ (l : List ℕ). l ++ (w ∷ [])) so_far ∙ ap (λ (x : ℕ). words_at s at i ++ (x ∷ [])) (is ∙ ap (word s) e) ∙ sym (words_next s at i)
+
+pub put_all : (s : List ℕ) (at i n : ℕ) (ws : List ℕ) → i ≡ n → length ws ≡ n → take i ws ≡ words_at s at i → ws ≡ words_at s at n
+put_all s at i n ws e l so_far = sym (take_all i ws (omega arith)) ∙ so_far ∙ ap (λ (k : ℕ). words_at s at k) e
 
 module _ (m : ℕ) (s : List ℕ) where
   pub word-take : (at : ℕ) → at + 4 ≤ m → word (take m s) at ≡ word s at

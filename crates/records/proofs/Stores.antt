@@ -1,20 +1,20 @@
 -- Stores of one list after another, and of words. Assumes nothing.
+use Rattle.std.specs.Prelude.{Result, Ok, Err}
 use mathlib.Core.Path.{◌≡◌, refl, sym, ap, ◌∙◌, subst}
 use mathlib.Core.Bool.{Bool, true, false, cond}
-use mathlib.Core.List.{List, [], ◌∷◌, ◌++◌, append_assoc}
+use mathlib.Core.List.{List, [], ◌∷◌, ◌++◌, append_assoc, append-nil}
 use Prim.Native.Nat.{ℕ, suc, ◌+◌, ◌*◌, ◌-◌, ◌≤◌, ◌<◌}
 use native.Mathlib.Omega.{arith}
-use native.Mathlib.Numerals.{add-one}
 use lib.Dec.{leb, eqb}
 use lib.ListN.{length, get_or, take, drop, set, length-append}
-use lib.Seq.{sets, sets-eq, drop-cons, take_at, length-take-le}
+use lib.Seq.{sets, sets-eq, drop-cons, take_at, length-take-le, drop-drop, drop-length}
+use borrow.Rule.Slice.PartMut.{put_mid}
 use borrow.Author.Tests.{leb-true, le-leb, lt-leb, ne_eqb}
 use Rattle.records.specs.declared.Refusal.TheVariants.{BufferTooShort, UnknownKind}
-use Rattle.records.specs.declared.Written.{Written}
-use Rattle.records.specs.declared.Written.TheVariants.{To, Refused}
+use Rattle.records.specs.declared.Refusal.{Refusal}
 use Rattle.records.specs.Numbers.{two, four, fours, AllBelow}
 use Rattle.records.specs.Record.{count_of, length_of, bytes_for}
-use Rattle.records.specs.Writing.{stored_answer, stored_over, Payload, words_answer, words_written}
+use Rattle.records.specs.Writing.{bytes_with, stored_answer, stored_over, Payload, words_answer, words_written}
 use Rattle.records.proofs.Counts.{at_most}
 use Rattle.records.proofs.Patterns.{length_two, length-four, length-fours, length_is}
 
@@ -23,16 +23,24 @@ pub sets_then : (a b l : List ℕ) (i j : ℕ) → j ≡ i + length a → sets (
 sets_then [] b l i j e = let z : j ≡ i = omega arith in ap (λ (k : ℕ). sets l k b) z
 sets_then (x ∷ a) b l i j e = sets_then a b (set l i x) (suc i) j (omega arith)
 
-pub stored_two : (l : List ℕ) (at b₀ b₁ : ℕ) → set (set l at b₀) (at + 1) b₁ ≡ sets l at (b₀ ∷ b₁ ∷ [])
-stored_two l at b₀ b₁ = simp add-one
+-- the bytes of a number, stored at once: k of them, at an offset
+pub stored_there : (l b new : List ℕ) (at k : ℕ) → new ≡ b → k ≡ length b → at + length b ≤ length l → put_mid at k l new ≡ sets l at b
+stored_there l b new at k e z h =
+    ap (λ (x : List ℕ). take at l ++ (x ++ drop k (drop at l))) e
+    ∙ ap (λ (x : List ℕ). take at l ++ (b ++ x)) (drop-drop k at l ∙ ap (λ (n : ℕ). drop (at + n) l) z)
+    ∙ sym (sets-eq b l at h ∙ append_assoc (take at l) b (drop (at + length b) l))
 
-pub stored_four : (l : List ℕ) (at b₀ b₁ b₂ b₃ : ℕ)
-    → set (set (set (set l at b₀) (at + 1) b₁) (at + 2) b₂) (at + 3) b₃ ≡ sets l at (b₀ ∷ b₁ ∷ b₂ ∷ b₃ ∷ [])
-stored_four l at b₀ b₁ b₂ b₃ =
-    let e₁ : at + 1 ≡ suc at = omega arith in
-    let e₂ : at + 2 ≡ suc (suc at) = omega arith in
-    let e₃ : at + 3 ≡ suc (suc (suc at)) = omega arith in
-    simp (e₁, e₂, e₃)
+-- the first words of seven, stored at once
+pub stored_first : (l new b : List ℕ) (k : ℕ) → new ≡ b → k ≡ length b → length b ≤ length l → new ++ drop k l ≡ sets l 0 b
+stored_first l new b k e z h =
+    let n : k ≡ 0 + length b = omega arith in
+    ap (λ (x : List ℕ). x ++ drop k l) e ∙ ap (λ (m : ℕ). b ++ drop m l) n ∙ sym (sets-eq b l 0 (omega arith))
+
+pub stored_all_seven : (l b : List ℕ) → length b ≡ length l → b ≡ sets l 0 b
+stored_all_seven l b e =
+    let z : 0 + length b ≡ length l = omega arith in
+    let none : drop (0 + length b) l ≡ [] = ap (λ (k : ℕ). drop k l) z ∙ drop-length l in
+    sym (sets-eq b l 0 (omega arith) ∙ ap (λ (x : List ℕ). b ++ x) none ∙ append-nil b)
 
 -- one word of those that are left
 pub more_words : (ws l l₁ : List ℕ) (i next : ℕ) → i < length ws → l₁ ≡ sets l next (four (get_or ws i 0))
@@ -66,14 +74,14 @@ stored_all k n ws l l₁ l₂ l₃ at z e₁ e₂ e₃ =
 
 -- ---- where the bytes fit, and where not: m is how many they are
 module _ (l b : List ℕ) (at m : ℕ) (e : length b ≡ m) where
-  pub fits : at ≤ length l → m ≤ length l - at → (l₁ : List ℕ) → l₁ ≡ sets l at b → (To (at + m) ≡ stored_answer l at b) × (l₁ ≡ stored_over l at b)
+  pub fits : at ≤ length l → m ≤ length l - at → (l₁ : List ℕ) → l₁ ≡ sets l at b → (Ok (at + m) ≡ stored_answer l at b) × (l₁ ≡ stored_over l at b)
   unfolding stored_answer stored_over
   fits h i l₁ s = (
-    sym (simp (le-leb (at + length b) (length l) (omega arith)) (ap (λ (k : ℕ). To (at + k)) e)),
+    sym (simp (le-leb (at + length b) (length l) (omega arith)) (ap (λ (k : ℕ). Ok (at + k)) e)),
     s ∙ sym (simp (le-leb (at + length b) (length l) (omega arith))),
   )
 
-  pub fits_not : length l < at + m → (Refused BufferTooShort ≡ stored_answer l at b) × (l ≡ stored_over l at b)
+  pub fits_not : length l < at + m → (Err BufferTooShort ≡ stored_answer l at b) × (l ≡ stored_over l at b)
   unfolding stored_answer stored_over
   fits_not h = (
     sym (simp (lt-leb (at + length b) (length l) (omega arith))),
@@ -81,12 +89,12 @@ module _ (l b : List ℕ) (at m : ℕ) (e : length b ≡ m) where
   )
 
 -- ---- what a store that was made left
-module _ (l b : List ℕ) (at next : ℕ) (made : stored_answer l at b ≡ To next) where
+module _ (l b : List ℕ) (at next : ℕ) (made : stored_answer l at b ≡ Ok next) where
   fitted : (at + length b ≤ length l) × ((next ≡ at + length b) × (stored_over l at b ≡ sets l at b))
   unfolding stored_answer stored_over
   fitted = go (leb (at + length b) (length l)) refl made
     where
-      go : (c : Bool) → leb (at + length b) (length l) ≡ c → cond c (To (at + length b)) (Refused BufferTooShort) ≡ To next
+      go : (c : Bool) → leb (at + length b) (length l) ≡ c → cond c (Ok (at + length b)) (Err BufferTooShort) ≡ Ok next
           → (at + length b ≤ length l) × ((next ≡ at + length b) × (cond c (sets l at b) l ≡ sets l at b))
       go true e m = (leb-true (at + length b) (length l) e, (cc, refl))
       go false e m = let z : ◌≡◌ {A = ℕ} 0 1 = cc in absurd (omega arith)
@@ -110,26 +118,25 @@ module _ (l b : List ℕ) (at next : ℕ) (made : stored_answer l at b ≡ To ne
       let z : length (take at l ++ b) ≡ next = length-append (take at l) b ∙ ap (λ (n : ℕ). n + length b) before ∙ sym to in
       ap (take next) (stored_is ∙ sym (append_assoc (take at l) b (drop next l))) ∙ take_at (take at l ++ b) (drop next l) next z
 
--- ---- a kind and n words of it in the place of a record
-module _ (l ws : List ℕ) (at k n : ℕ) (count : n ≡ count_of k) where
-  pub no_kind : n ≡ 0 → (Refused UnknownKind ≡ words_answer l at k ws) × ((l ≡ words_written l at k ws) × Payload k ws)
+-- ---- a kind and words in the place of a record
+module _ (l ws : List ℕ) (at k : ℕ) where
+  pub no_kind : count_of k ≡ 0 → (Err UnknownKind ≡ words_answer l at k ws) × ((l ≡ words_written l at k ws) × Payload k ws)
   unfolding words_answer words_written AllBelow
-  no_kind e =
-      let z : count_of k ≡ 0 = sym count ∙ e in
-      (rw z, (rw z, record { there = rw z; below = rw z tt }))
+  no_kind z = (rw z, (rw z, record { there = rw z; below = rw z tt }))
 
-  part : take (n - 0) ws ≡ take (count_of k) ws
-  part = let z : n - 0 ≡ count_of k = omega arith in ap (λ (m : ℕ). take m ws) z
-
-  pub some_kind : (n ≡ 0 → ⊥) → length ws ≡ 7 → (w : Written) (l₁ : List ℕ) → w ≡ stored_answer l at (bytes_for k (take (n - 0) ws))
-      → l₁ ≡ stored_over l at (bytes_for k (take (n - 0) ws)) → AllBelow (take (n - 0) ws)
+  -- n words of the kind j, which k is the number of
+  pub some_kind : (j n : ℕ) → j ≡ k → n ≡ count_of j → 0 < n → length ws ≡ 7 → (w : Result ℕ Refusal) (l₁ : List ℕ)
+      → w ≡ stored_answer l at (bytes_for j (take n ws)) → l₁ ≡ stored_over l at (bytes_for j (take n ws)) → AllBelow (take n ws)
       → (w ≡ words_answer l at k ws) × ((l₁ ≡ words_written l at k ws) × Payload k ws)
   unfolding words_answer words_written stored_answer stored_over
-  some_kind some seven w l₁ e f below =
-      let known : eqb (count_of k) 0 ≡ false = ne_eqb (count_of k) 0 (λ z. some (count ∙ z)) in (
-        e ∙ ap (λ (x : List ℕ). stored_answer l at (bytes_for k x)) part ∙ sym (simp known),
+  some_kind j n same count some seven w l₁ e f below =
+      let z : n ≡ count_of k = count ∙ ap count_of same in
+      let part : take n ws ≡ take (count_of k) ws = ap (λ (m : ℕ). take m ws) z in
+      let b : bytes_for j (take n ws) ≡ bytes_with k ws = ap (λ (i : ℕ). bytes_for i (take n ws)) same ∙ ap (bytes_for k) part in
+      let known : eqb (count_of k) 0 ≡ false = ne_eqb (count_of k) 0 (λ y. omega (arith, z)) in (
+        e ∙ ap (stored_answer l at) b ∙ sym (simp known),
         (
-          f ∙ ap (λ (x : List ℕ). stored_over l at (bytes_for k x)) part ∙ sym (simp known),
+          f ∙ ap (stored_over l at) b ∙ sym (simp known),
           record { there = length-take-le (count_of k) ws (omega (arith, at_most k)); below = subst AllBelow part below },
         ),
       )

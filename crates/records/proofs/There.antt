@@ -1,4 +1,5 @@
 -- What is read stands there: a record that is read is what the bytes between its offset and the next are. Assumes nothing.
+use Rattle.std.specs.Prelude.{Ok}
 use mathlib.Core.Path.{◌≡◌, refl, sym, ap, ◌∙◌, subst}
 use mathlib.Core.List.{List, [], ◌∷◌, ◌++◌}
 use Prim.Native.Nat.{ℕ, zero, suc, ◌+◌, ◌-◌, ◌*◌, ◌/◌, ◌%◌, ◌≤◌, ◌<◌}
@@ -102,7 +103,7 @@ length_words s at zero = refl
 length_words s at (suc n) = ap suc (length_words s (at + 4) n)
 
 -- ---- a record that is read
-pub there : (s : List ℕ) (at next : ℕ) (r : Record) → Bytes s → read_of s at ≡ Whole r next → (bytes_of r ≡ take (next - at) (drop at s)) × Fits r
+pub there : (s : List ℕ) (at next : ℕ) (r : Record) → Bytes s → read_of s at ≡ Ok (Whole r next) → (bytes_of r ≡ take (next - at) (drop at s)) × Fits r
 unfolding bytes_of bytes_for
 there s at next r bytes got =
     let d : Stands s at r next = stands s at r next got in

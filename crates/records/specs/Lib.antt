@@ -1,5 +1,6 @@
 pub mod Answers
 pub mod Cut
+pub mod Kinds
 pub mod Laws
 pub mod Numbers
 pub mod Reading

@@ -1,11 +1,9 @@
 -- A record written at an offset of a buffer (docs/RULES.md, "The journal"). Definitions only.
-use Rattle.std.specs.Prelude.{ℕ, ◌+◌, ◌≡◌, cond, List, [], ◌∷◌, leb, eqb, length, take}
+use Rattle.std.specs.Prelude.{ℕ, ◌+◌, ◌≡◌, cond, List, [], ◌∷◌, leb, eqb, length, take, Result, Ok, Err}
 use Rattle.std.proofs.lemmas.List.Edits.{sets}
 use Rattle.records.specs.declared.Record.{Record}
 use Rattle.records.specs.declared.Refusal.{Refusal}
 use Rattle.records.specs.declared.Refusal.TheVariants.{BufferTooShort, UnknownKind}
-use Rattle.records.specs.declared.Written.{Written}
-use Rattle.records.specs.declared.Written.TheVariants.{To, Refused}
 use Rattle.records.specs.Numbers.{AllBelow}
 use Rattle.records.specs.Record.{count_of, bytes_for, bytes_of}
 
@@ -13,14 +11,14 @@ use Rattle.records.specs.Record.{count_of, bytes_for, bytes_of}
 abbrev pub refuse_store : {A : Type 0} → List ℕ → ℕ → List ℕ → (Refusal → A) → A → A
 refuse_store l at b refused well = cond (leb (at + length b) (length l)) well (refused BufferTooShort)
 
-unfoldable pub stored_answer : List ℕ → ℕ → List ℕ → Written
-stored_answer l at b = refuse_store l at b Refused (To (at + length b))
+unfoldable pub stored_answer : List ℕ → ℕ → List ℕ → Result ℕ Refusal
+stored_answer l at b = refuse_store l at b Err (Ok (at + length b))
 
 -- the buffer at exit: the bytes over those that were there, or as it was
 unfoldable pub stored_over : List ℕ → ℕ → List ℕ → List ℕ
 stored_over l at b = refuse_store l at b (λ _. l) (sets l at b)
 
-abbrev pub write_answer : List ℕ → ℕ → Record → Written
+abbrev pub write_answer : List ℕ → ℕ → Record → Result ℕ Refusal
 write_answer l at r = stored_answer l at (bytes_of r)
 
 abbrev pub written_over : List ℕ → ℕ → Record → List ℕ
@@ -48,8 +46,8 @@ pub record Payload (k : ℕ) (ws : List ℕ) : Type 0 where
 abbrev pub refuse_words : {A : Type 0} → List ℕ → ℕ → ℕ → List ℕ → (Refusal → A) → A → A
 refuse_words l at k ws refused well = cond (eqb (count_of k) 0) (refused UnknownKind) (refuse_store l at (bytes_with k ws) refused well)
 
-unfoldable pub words_answer : List ℕ → ℕ → ℕ → List ℕ → Written
-words_answer l at k ws = refuse_words l at k ws Refused (To (at + length (bytes_with k ws)))
+unfoldable pub words_answer : List ℕ → ℕ → ℕ → List ℕ → Result ℕ Refusal
+words_answer l at k ws = refuse_words l at k ws Err (Ok (at + length (bytes_with k ws)))
 
 unfoldable pub words_written : List ℕ → ℕ → ℕ → List ℕ → List ℕ
 words_written l at k ws = refuse_words l at k ws (λ _. l) (sets l at (bytes_with k ws))

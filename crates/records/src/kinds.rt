@@ -1,69 +1,91 @@
-// What each kind of record holds.
+// The kinds of records, and what each holds.
 ghost use Rattle.std.specs.Prelude.{◌≡◌, ◌+◌, ◌*◌, ◌<◌, ◌≤◌, length};
+ghost use Rattle.records.specs.Kinds.{number_of_kind, Numbers};
 ghost use Rattle.records.specs.Numbers.{words_at};
-ghost use Rattle.records.specs.Record.{count_of, conic_of, transform_of, record_of};
+ghost use Rattle.records.specs.Record.{count_of, record_of};
 
-use crate::numbers::{signed, word_at};
-use crate::{ConicBits, Record, TransformBits};
+use crate::numbers::{word_at, words_at};
+use crate::{ConicBits, Record, Refusal, TransformBits};
 
-// How many words a kind has; none where it is unknown.
-pub fn count(kind: u32) -> u32
-    ensures { (result ≡ count_of kind) × (result < 8) }
+// What a record is of.
+#[derive(Clone, Copy, Debug, PartialEq, Eq)]
+pub enum Kind {
+    Conic,
+    Transform,
+    Correction,
+}
+
+impl Kind {
+    // Its number, as a record has it.
+    pub fn number(self) -> u32
+        ensures { (result ≡ number_of_kind self) × (result < 4) }
+    {
+        match self {
+            Kind::Conic => Record::KIND_CONIC,
+            Kind::Transform => Record::KIND_TRANSFORM,
+            Kind::Correction => Record::KIND_CORRECTION,
+        }
+    }
+
+    // How many words a record of it has.
+    #[tactic(auto, unfolding(crate::specs::Record::count_of))]
+    pub fn words(self) -> usize
+        ensures count { result ≡ count_of (number_of_kind self) }
+        ensures few { (0 < result) × (result < 8) }
+    {
+        match self {
+            Kind::Conic => 7,
+            Kind::Transform => 6,
+            Kind::Correction => 1,
+        }
+    }
+}
+
+impl TryFrom<u32> for Kind {
+    type Error = Refusal;
+
+    ghost try_from_gives = { Numbers };
+
+    fn try_from(number: u32) -> Result<Kind, Refusal> {
+        match number {
+            Record::KIND_CONIC => Ok(Kind::Conic),
+            Record::KIND_TRANSFORM => Ok(Kind::Transform),
+            Record::KIND_CORRECTION => Ok(Kind::Correction),
+            _ => Err(Refusal::UnknownKind),
+        }
+    }
+}
+
+// The record of a kind whose words stand at an offset.
+#[tactic(auto, unfolding(crate::specs::Record::count_of, crate::specs::Record::record_of))]
+pub fn record_at(bytes: &[u8], at: usize, kind: Kind) -> Record
+    requires { at + 4 * count_of (number_of_kind kind) ≤ length bytes.now }
+    ensures { result ≡ record_of (number_of_kind kind) (words_at bytes.now at (count_of (number_of_kind kind))) }
 {
     match kind {
-        1 => 7,
-        2 => 6,
-        3 => 1,
-        _ => 0,
-    }
-}
-
-fn conic_at(bytes: &[u8], at: usize) -> ConicBits
-    requires { at + 28 ≤ length bytes.now }
-    ensures { result ≡ conic_of (words_at bytes.now at 7) }
-{
-    let second = at + 4;
-    let third = second + 4;
-    let fourth = third + 4;
-    let fifth = fourth + 4;
-    let sixth = fifth + 4;
-    ConicBits {
-        x0: word_at(bytes, at),
-        y0: word_at(bytes, second),
-        x1: word_at(bytes, third),
-        y1: word_at(bytes, fourth),
-        x2: word_at(bytes, fifth),
-        y2: word_at(bytes, sixth),
-        weight: word_at(bytes, sixth + 4),
-    }
-}
-
-fn transform_at(bytes: &[u8], at: usize) -> TransformBits
-    requires { at + 24 ≤ length bytes.now }
-    ensures { result ≡ transform_of (words_at bytes.now at 6) }
-{
-    let second = at + 4;
-    let third = second + 4;
-    let fourth = third + 4;
-    let fifth = fourth + 4;
-    TransformBits {
-        sx: word_at(bytes, at),
-        ky: word_at(bytes, second),
-        kx: word_at(bytes, third),
-        sy: word_at(bytes, fourth),
-        tx: word_at(bytes, fifth),
-        ty: word_at(bytes, fifth + 4),
-    }
-}
-
-// The record of a known kind whose words stand at an offset.
-pub fn record_at(bytes: &[u8], at: usize, kind: u32) -> Record
-    requires { (0 < count_of kind) × (at + 4 * count_of kind ≤ length bytes.now) }
-    ensures { result ≡ record_of kind (words_at bytes.now at (count_of kind)) }
-{
-    match kind {
-        1 => Record::Conic(conic_at(bytes, at)),
-        2 => Record::Transform(transform_at(bytes, at)),
-        _ => Record::Correction(signed(word_at(bytes, at))),
+        Kind::Conic => {
+            let [x0, y0, x1, y1, x2, y2, weight] = words_at::<7>(bytes, at);
+            Record::Conic(ConicBits {
+                x0,
+                y0,
+                x1,
+                y1,
+                x2,
+                y2,
+                weight,
+            })
+        }
+        Kind::Transform => {
+            let [sx, ky, kx, sy, tx, ty] = words_at::<6>(bytes, at);
+            Record::Transform(TransformBits {
+                sx,
+                ky,
+                kx,
+                sy,
+                tx,
+                ty,
+            })
+        }
+        Kind::Correction => Record::Correction(word_at(bytes, at).cast_signed()),
     }
 }

@@ -4,10 +4,14 @@
 #![tactic(auto)]
 
 ghost use Rattle.std.specs.Prelude.{◌≡◌};
-ghost use Rattle.records.specs.Answers.{number_of_refusal, number_of_found, number_of_written, number_of_ended};
+ghost use Rattle.records.specs.Answers.{number_of_refusal, refusal_numbers, number_of_refused, refused_numbers};
+ghost use Rattle.records.specs.Kinds.{number_of_kind};
 ghost use Rattle.records.specs.Reading.{read_of, end_of};
 ghost use Rattle.records.specs.Record.{Fits, kind_of, words_over};
 ghost use Rattle.records.specs.Writing.{write_answer, written_over, Payload, words_answer, words_written};
+
+use answers::Numbered;
+pub use kinds::Kind;
 
 mod kinds;
 mod numbers;
@@ -45,7 +49,7 @@ pub enum Record {
 }
 
 // Why a call does nothing.
-#[derive(Clone, Copy)]
+#[derive(Clone, Copy, Debug, PartialEq, Eq)]
 pub enum Refusal {
     // The record does not fit into the buffer.
     BufferTooShort,
@@ -55,11 +59,12 @@ pub enum Refusal {
     UnknownKind,
 }
 
-impl Refusal {
-    // Its number in docs/RULES.md, "Answer numbers".
-    pub fn number(self) -> u32
-        ensures { result ≡ number_of_refusal self }
-    {
+impl Numbered for Refusal {
+    ghost number_of = { number_of_refusal };
+
+    ghost above_zero = { refusal_numbers };
+
+    fn number(self) -> u32 {
         match self {
             Refusal::BufferTooShort => 2,
             Refusal::BadLength => 17,
@@ -68,66 +73,29 @@ impl Refusal {
     }
 }
 
-// What stands at an offset: a whole record, and the offset behind it; nothing; a record that is cut off; or what no journal
-// has, with the offset of that record.
+// What no journal has, and the offset of that record.
+#[derive(Clone, Copy, Debug, PartialEq, Eq)]
+pub struct Refused {
+    pub why: Refusal,
+    pub at: usize,
+}
+
+impl Numbered for Refused {
+    ghost number_of = { number_of_refused };
+
+    ghost above_zero = { refused_numbers };
+
+    fn number(self) -> u32 {
+        self.why.number()
+    }
+}
+
+// What stands at an offset: a whole record, and the offset behind it; nothing; or a record that is cut off.
 #[derive(Clone, Copy)]
 pub enum Found {
     Whole(Record, usize),
     End,
     Short,
-    Refused(Refusal, usize),
-}
-
-impl Found {
-    // Its number in docs/RULES.md, "Answer numbers".
-    pub fn number(self) -> u32
-        ensures { result ≡ number_of_found self }
-    {
-        match self {
-            Found::Whole(_, _) => 0,
-            Found::End => 0,
-            Found::Short => 0,
-            Found::Refused(why, _) => why.number(),
-        }
-    }
-}
-
-// The offset behind the record that was written.
-#[derive(Clone, Copy)]
-pub enum Written {
-    To(usize),
-    Refused(Refusal),
-}
-
-impl Written {
-    // Its number in docs/RULES.md, "Answer numbers".
-    pub fn number(self) -> u32
-        ensures { result ≡ number_of_written self }
-    {
-        match self {
-            Written::To(_) => 0,
-            Written::Refused(why) => why.number(),
-        }
-    }
-}
-
-// The offset behind the last whole record; or what no journal has, with the offset of that record.
-#[derive(Clone, Copy)]
-pub enum Ended {
-    At(usize),
-    Refused(Refusal, usize),
-}
-
-impl Ended {
-    // Its number in docs/RULES.md, "Answer numbers".
-    pub fn number(self) -> u32
-        ensures { result ≡ number_of_ended self }
-    {
-        match self {
-            Ended::At(_) => 0,
-            Ended::Refused(why, _) => why.number(),
-        }
-    }
 }
 
 impl Record {
@@ -140,13 +108,13 @@ impl Record {
     // How many bytes the longest record has, a conic's.
     pub const MAX_RECORD: u32 = 34;
 
-    pub fn kind(self) -> u32
-        ensures { result ≡ kind_of self }
+    pub fn kind(self) -> Kind
+        ensures { number_of_kind result ≡ kind_of self }
     {
         match self {
-            Record::Conic(_) => Record::KIND_CONIC,
-            Record::Transform(_) => Record::KIND_TRANSFORM,
-            Record::Correction(_) => Record::KIND_CORRECTION,
+            Record::Conic(_) => Kind::Conic,
+            Record::Transform(_) => Kind::Transform,
+            Record::Correction(_) => Kind::Correction,
         }
     }
 
@@ -156,99 +124,94 @@ impl Record {
         ensures fits { Fits self }
     {
         match self {
-            Record::Conic(c) => {
-                words[0] = c.x0;
-                words[1] = c.y0;
-                words[2] = c.x1;
-                words[3] = c.y1;
-                words[4] = c.x2;
-                words[5] = c.y2;
-                words[6] = c.weight;
-            }
+            Record::Conic(c) => *words = [c.x0, c.y0, c.x1, c.y1, c.x2, c.y2, c.weight],
             Record::Transform(t) => {
-                words[0] = t.sx;
-                words[1] = t.ky;
-                words[2] = t.kx;
-                words[3] = t.sy;
-                words[4] = t.tx;
-                words[5] = t.ty;
+                words[..6].copy_from_slice(&[t.sx, t.ky, t.kx, t.sy, t.tx, t.ty]);
             }
-            Record::Correction(z) => words[0] = numbers::pattern(z),
+            Record::Correction(z) => words[0] = z.cast_unsigned(),
         }
     }
 }
 
 // What stands at an offset of a journal; past its end there is nothing.
-pub fn read(journal: &[u8], at: usize) -> Found
+#[tactic(auto, using(crate::proofs::Judged::judged))]
+pub fn read(journal: &[u8], at: usize) -> Result<Found, Refused>
     ensures { result ≡ read_of journal.now at }
 {
     if journal.len() <= at {
-        return Found::End;
+        return Ok(Found::End);
     }
     let left = journal.len() - at;
     if left < 4 {
-        return Found::Short;
+        return Ok(Found::Short);
     }
-    let size = numbers::word_at(journal, at);
+    let size = numbers::word_at(journal, at) as usize;
     if size < 2 {
-        return Found::Refused(Refusal::BadLength, at);
+        return Err(Refused {
+            why: Refusal::BadLength,
+            at,
+        });
     }
     if left < 6 {
-        return Found::Short;
+        return Ok(Found::Short);
     }
-    let kind = numbers::half_at(journal, at + 4);
-    let n = kinds::count(kind);
-    if n == 0 {
-        return Found::Refused(Refusal::UnknownKind, at);
+    let number = numbers::half_at(journal, at + 4) as u32;
+    let Ok(kind) = Kind::try_from(number) else {
+        return Err(Refused {
+            why: Refusal::UnknownKind,
+            at,
+        });
+    };
+    if size != 2 + 4 * kind.words() {
+        return Err(Refused {
+            why: Refusal::BadLength,
+            at,
+        });
     }
-    let expected = 2 + 4 * n;
-    if size != expected {
-        return Found::Refused(Refusal::BadLength, at);
+    if left < 4 + size {
+        return Ok(Found::Short);
     }
-    let whole = 4 + size as usize;
-    if left < whole {
-        return Found::Short;
-    }
-    let r = kinds::record_at(journal, at + 6, kind);
-    Found::Whole(r, at + whole)
+    let record = kinds::record_at(journal, at + 6, kind);
+    Ok(Found::Whole(record, at + 4 + size))
 }
 
-// Writes a record at an offset, where it fits. That its numbers have 32 bits is what the laws of a journal ask of it.
-pub fn write(journal: &mut [u8], at: usize, r: Record) -> Written
+// Writes a record at an offset, where it fits; and the offset behind it. That its numbers have 32 bits is what the laws of a
+// journal ask of it.
+pub fn write(journal: &mut [u8], at: usize, r: Record) -> Result<usize, Refusal>
     ensures value { result ≡ write_answer journal.old at r }
     ensures journal { journal.new ≡ written_over journal.old at r }
     ensures fits { Fits r }
 {
     let mut words = [0u32; 7];
     r.store_words(&mut words);
-    write_words(journal, at, r.kind(), &words)
+    let kind = r.kind();
+    let own = &words[..kind.words()];
+    store::put(journal, at, kind, own)
 }
 
-// Writes the record of a kind with the first seven, six or one of these words, where there is such a kind and it fits.
-pub fn write_words(journal: &mut [u8], at: usize, kind: u32, words: &[u32; 7]) -> Written
+// Writes the record of a kind with the first seven, six or one of these words, where there is such a kind and it fits; and the
+// offset behind it.
+pub fn write_words(
+    journal: &mut [u8],
+    at: usize,
+    kind: u32,
+    words: &[u32; 7],
+) -> Result<usize, Refusal>
     ensures value { result ≡ words_answer journal.old at kind words.now }
     ensures journal { journal.new ≡ words_written journal.old at kind words.now }
     ensures words { Payload kind words.now }
 {
-    let n = kinds::count(kind) as usize;
-    let all: &[u32] = words;
-    if n == 0 {
-        return Written::Refused(Refusal::UnknownKind);
-    }
-    store::put(journal, at, kind, &all[0..n])
+    let kind = Kind::try_from(kind)?;
+    store::put(journal, at, kind, &words[..kind.words()])
 }
 
 // The offset behind the last whole record of a journal, read from its start: where to write on.
-pub fn find_end(journal: &[u8]) -> Ended
+pub fn find_end(journal: &[u8]) -> Result<usize, Refused>
     ensures { result ≡ end_of journal.now }
 {
     let mut at = 0;
-    loop {
-        match read(journal, at) {
-            Found::Whole(_, next) => at = next,
-            Found::End => return Ended::At(at),
-            Found::Short => return Ended::At(at),
-            Found::Refused(why, place) => return Ended::Refused(why, place),
-        }
+    while let Found::Whole(_, next) = read(journal, at)? {
+        at = next;
     }
+    Ok(at)
 }

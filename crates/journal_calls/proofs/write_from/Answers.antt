@@ -6,5 +6,5 @@ pub returns : goal.returns
 returns c =
     let a = c.args in
     let w = c.write_words in
-    given a.journal.now w.new.journal a.at a.kind a.words.now c.give_written.result a.next.now c.give_written.new.next
-    w.result w.ensures.value w.ensures.journal w.ensures.words c.give_written.ensures.value c.give_written.ensures.next
+    given a.journal.now w.new.journal a.at a.kind a.words.now c.give.result a.next.now c.give.new.out
+    w.result w.ensures.value w.ensures.journal w.ensures.words c.give.ensures.value c.give.ensures.out

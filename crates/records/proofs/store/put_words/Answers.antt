@@ -9,27 +9,22 @@ use Rattle.records.specs.Numbers.{fours, four}
 use Rattle.records.proofs.Stores.{more_words}
 use Rattle.records.proofs.store.put_words.Goals as goal
 
-pub loop-i-preserved : goal.loop-i-preserved
-loop-i-preserved c =
-    let x = c.loop-i in
-    let s = c.args in
-    let l₁ = c.put_word.new.out in
-    let e : l₁ ≡ sets x.out x.next (four (get_or s.words.now x.i 0)) = c.put_word.ensures in (
-      omega arith,
-      (
-        omega arith,
-        (
-          ap length e ∙ length-sets x.out x.next (four (get_or s.words.now x.i 0)) ∙ x.invariant.1.1.0,
-          more_words s.words.now x.out l₁ x.i x.next (omega arith) e ∙ x.invariant.1.1.1,
-        ),
-      ),
-    )
+pub loop-word-preserved : goal.loop-word-preserved
+loop-word-preserved c =
+    let x = c.loop-word in
+    let ws = c.args.words.now in
+    let e = c.put_word.ensures in
+    record {
+      next = omega arith;
+      room = ap length e ∙ length-sets x.out x.next (four (get_or ws x.word-index 0)) ∙ x.invariant.room;
+      left = more_words ws x.out c.put_word.new.out x.word-index x.next (omega arith) e ∙ x.invariant.left;
+    }
 
 pub returns : goal.returns
 unfolding fours
 returns c =
-    let x = c.loop-i in
-    let s = c.args in
-    let z : x.i ≡ length s.words.now = omega arith in
-    let d : drop x.i s.words.now ≡ [] = ap (λ (k : ℕ). drop k s.words.now) z ∙ drop-length s.words.now in
-    sym (ap (λ (k : List ℕ). sets x.out x.next (fours k)) d) ∙ x.invariant.1.1.1
+    let x = c.loop-word in
+    let ws = c.args.words.now in
+    let z : x.word-index ≡ length ws = omega arith in
+    let d : drop x.word-index ws ≡ [] = ap (λ (k : ℕ). drop k ws) z ∙ drop-length ws in
+    sym (ap (λ (k : List ℕ). sets x.out x.next (fours k)) d) ∙ x.invariant.left
