@@ -5,17 +5,14 @@ use Prim.Native.Nat.{ℕ, zero, suc, ◌+◌, ◌-◌, ◌*◌, ◌/◌, ◌%◌
 use native.Mathlib.Nat.{le_trans, le_of_eq, lt_of_lt_of_le, lt_of_le_of_lt, lt_of_not-le, lt_irrefl, mul_assoc, mul-le-mul_right}
 use native.Mathlib.Nat.{sub-add_cancel, mul-mod_left, add_comm}
 use native.Mathlib.Omega.{arith}
-use lib.Dec.{T, lit≤, leb, eqb, eqb→eq, not_T}
+use lib.Dec.{T, leb, eqb, eqb→eq, not_T}
 use lib.IntN.{pos}
-use lib.Pow.{pow-add, pow_pos, pow_mono, shl_lt}
+use lib.Pow.{pow-add, pow_mono, shl_lt}
 use lib.Count.{count_leading_zeros, leading_top}
 use lib.Ieee.{Float, inf, fin, Format, binary32, binary64, prec, low, odd, hid, ones, top, of_fields, of_bits, to_bits, fits, is_nan}
 use lib.Ieee.Bits.{is_false, of_bits-to_bits}
 use lib.Ieee.Exact.{HasValue, odd_sign}
-use Rattle.float_ground.specs.declared.parts.Parts.{Parts}
-use Rattle.float_ground.specs.Parts.{Normal, Stands, Is}
-use Rattle.float_laws.proofs.Patterns.{plain-bits, twice_hid}
-use Rattle.float_laws.proofs.Values.{same_value}
+use Rattle.float_laws.proofs.Patterns.{plain-bits}
 
 -- ---- of w places, z is m's leading zeros but d: the shift that brings its leading digit to 2 ^ p, and none of its digits is lost
 
@@ -99,51 +96,6 @@ shifted f m j =
     whole : (f : Format) → 1128 - low f + low f ≡ 1128
     whole binary32 = refl
     whole binary64 = refl
-
--- a value of m * 2 ^ j smallest ones, in normal form
-stands_by : (f : Format) (x : Float) (s : Bool) (m j : ℕ) (n : Parts) → HasValue x s (m * 2 ^ j) (2 ^ low f) → m < 2 ^ prec f →
-    Normal s m (j + (1128 - low f)) n → Stands f n × Is x n
-stands_by f x s m j n v few N = (
-  record { tidy = N.tidy; clear = N.clear (prec f) (few_digits f) few; least = omega (arith, N.least) },
-  rw (N.sign, N.value) (same_value x s (m * 2 ^ j) (2 ^ low f) (m * 2 ^ (j + (1128 - low f))) (2 ^ 1128) (pow_pos (low f)) (shifted f m j) v),
-)
-  where
-    few_digits : (f : Format) → prec f ≤ 53
-    few_digits binary32 = lit≤ tt
-    few_digits binary64 = lit≤ tt
-
--- ---- what `of_fields` hands to `normal`, and what it answers
-
-pub record Room (m j lowest : ℕ) : Type 0 where
-  pub some : 0 < m
-  pub few : m < 2 ^ 53
-  pub at_least : 54 ≤ lowest
-  pub most : j + lowest ≤ 2100
-
-pub room_high : (f : Format) (x t : ℕ) → x ≤ ones f → t < hid f → Room (t + hid f) (x - 1) (1128 - low f)
-room_high binary32 x t h g = record { some = omega arith; few = omega arith; at_least = omega arith; most = omega arith }
-room_high binary64 x t h g = record { some = omega arith; few = omega arith; at_least = omega arith; most = omega arith }
-
-pub room_low : (f : Format) (t : ℕ) → 0 < t → t < hid f → Room t 0 (1128 - low f)
-room_low binary32 t p g = record { some = p; few = omega arith; at_least = omega arith; most = omega arith }
-room_low binary64 t p g = record { some = p; few = omega arith; at_least = omega arith; most = omega arith }
-
-pub stands_high : (f : Format) (s : Bool) (x t : ℕ) (n : Parts) → 0 < x → (x ≡ ones f → ⊥) → t < hid f →
-    Normal s (t + hid f) (x - 1 + (1128 - low f)) n → Stands f n × Is (of_fields f s x t) n
-stands_high f s x t n p o g N =
-    stands_by f (of_fields f s x t) s (t + hid f) (x - 1) n (fields_high f s x t p o)
-    (lt_of_lt_of_le (more t (hid f) g) (le_of_eq (sym (twice_hid f)))) N
-  where
-    more : (t h : ℕ) → t < h → t + h < h + h
-    more t h l = omega arith
-
-pub stands_low : (f : Format) (s : Bool) (x t : ℕ) (n : Parts) → x ≤ 0 → t < hid f → Normal s t (0 + (1128 - low f)) n →
-    Stands f n × Is (of_fields f s x t) n
-stands_low f s x t n z g N =
-    stands_by f (of_fields f s x t) s t 0 n (fields_low f s x t z) (lt_of_lt_of_le (more t (hid f) g) (le_of_eq (sym (twice_hid f)))) N
-  where
-    more : (t h : ℕ) → t < h → t < h + h
-    more t h l = omega arith
 
 -- ---- the fields of a pattern that is no NaN's
 

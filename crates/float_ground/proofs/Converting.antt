@@ -1,23 +1,16 @@
--- Laws over a format, on conversions of what was taken apart, kind by kind. Assumes nothing.
+-- Laws over a format: a value rounded, and the patterns of a sign and the rest. Assumes nothing.
 use mathlib.Core.Path.{◌≡◌, refl, sym, ap, ◌∙◌}
-use mathlib.Core.Bool.{Bool, true, false, cond}
-use Prim.Native.Nat.{ℕ, ◌+◌, ◌*◌, ◌^◌, ◌≤◌, ◌<◌, zero-le}
-use native.Mathlib.Nat.{le_refl}
+use mathlib.Core.Bool.{Bool, true, false, not, cond}
+use Prim.Native.Nat.{ℕ, ◌+◌, ◌*◌, ◌≤◌, ◌<◌}
 use native.Mathlib.Omega.{arith}
 use lib.IntN.{pos}
-use lib.Pow.{pow_pos}
-use lib.Ieee.{Float, nan, inf, fin, Format, binary32, binary64, up, down, round, hid, ones, top, of_bits}
+use lib.Dec.{T}
+use lib.Ieee.{Float, nan, nan_bits, inf, fin, Format, binary32, binary64, up, down, round, hid, ones, top, of_bits}
 use lib.Ieee.Fits.{down_pos}
 use lib.Ieee.Exact.{HasValue}
 use lib.Ieee.Scale.{round_same}
-use Rattle.float_ground.specs.declared.parts.Parts.{Parts}
-use Rattle.float_ground.specs.declared.parts.Apart.{Apart}
-use Rattle.float_ground.specs.declared.parts.Apart.TheVariants.{Nan, Infinite, Zero, Number}
-use Rattle.float_ground.specs.declared.pack.Pattern.TheVariants.{Nothing, Bits}
-use Rattle.float_ground.specs.Parts.{TidyApart, TakenApart, Packed, Plain, RoundedTo}
 use Rattle.float_laws.specs.Narrow.{round_to}
 use Rattle.float_laws.proofs.Patterns.{plain_pattern}
-use Rattle.float_laws.proofs.Sign.{infinite}
 
 -- ---- by a value
 
@@ -29,7 +22,8 @@ round_to_val f (fin t m e) s a c C h = round_same f t (m * up e) (down e) a c (d
 
 -- ---- the patterns
 
-pub plain : (f : Format) (s : Bool) (r : ℕ) → r ≤ ones f * hid f → Plain f (Bits (cond s (top f) 0 + r))
+pub plain : (f : Format) (s : Bool) (r : ℕ) → r ≤ ones f * hid f →
+    T (not (nan_bits f (cond s (top f) 0 + r))) × (cond s (top f) 0 + r < 2 * top f)
 plain f s r h = (plain_pattern f s r h, room f s h)
   where
     room : (f : Format) (s : Bool) → r ≤ ones f * hid f → cond s (top f) 0 + r < 2 * top f
@@ -53,30 +47,11 @@ round-zero binary32 false = refl
 round-zero binary64 true = refl
 round-zero binary64 false = refl
 
--- ---- rounding
+-- ---- what is rounded to itself
 
-pub rounded_nan : (f : Format) → RoundedTo f Nan Nothing
+pub rounded_nan : (f : Format) (x : Float) → x ≡ nan → nan ≡ round_to f x
 unfolding round_to
-rounded_nan f = record { plain = tt; is = λ g x e. sym (ap (round_to f) e) }
+rounded_nan f x e = sym (ap (round_to f) e)
 
-pub rounded_infinite : (f : Format) (s : Bool) → RoundedTo f (Infinite s) (Bits (cond s (top f) 0 + ones f * hid f))
-unfolding round_to
-rounded_infinite f s = record { plain = plain f s (ones f * hid f) (le_refl (ones f * hid f)); is = λ g x e. infinite f s ∙ sym (ap (round_to f) e) }
-
-pub rounded_zero : (f : Format) (s : Bool) → RoundedTo f (Zero s) (Bits (cond s (top f) 0 + 0))
-rounded_zero f s = record { plain = plain f s 0 zero-le; is = λ g x e. zero_bits f s ∙ sym (ap (round_to f) e ∙ round-zero f s) }
-
-pub rounded_number : (f : Format) (n : Parts) (r : ℕ) → Packed f n r → RoundedTo f (Number n) (Bits (cond n.negative (top f) 0 + r))
-rounded_number f n r p =
-    record {
-      plain = plain f n.negative r p.most;
-      is = λ g x t. p.is n.negative ∙ sym (round_to_val f x n.negative (n.significand * 2 ^ n.exponent) (2 ^ 1128) (pow_pos 1128) t.1);
-    }
-
--- ---- what a call hands on
-
-pub tidy_apart : (f : Format) (x : Float) (a : Apart) → TakenApart f x a → TidyApart a
-tidy_apart f x Nan t = tt
-tidy_apart f x (Infinite s) t = tt
-tidy_apart f x (Zero s) t = tt
-tidy_apart f x (Number n) t = t.0.tidy
+pub rounded_zero : (f : Format) (s : Bool) (x : Float) → x ≡ fin s 0 (pos 0) → of_bits f (cond s (top f) 0 + 0) ≡ round_to f x
+rounded_zero f s x e = zero_bits f s ∙ sym (ap (round_to f) e ∙ round-zero f s)

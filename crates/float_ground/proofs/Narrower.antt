@@ -1,7 +1,7 @@
 -- Laws on narrowing a pattern t that has no sign: one for each way that `pack::narrowed` and `pack::small` go. Assumes nothing.
 use mathlib.Core.Path.{◌≡◌, sym, ap, ◌∙◌, subst}
 use mathlib.Core.Logic.{◌⊎◌, inl, inr}
-use mathlib.Core.Bool.{Bool, false}
+use mathlib.Core.Bool.{Bool}
 use Prim.Native.Nat.{ℕ, ◌+◌, ◌-◌, ◌*◌, ◌/◌, ◌%◌, ◌^◌, ◌≤◌, ◌<◌, zero-le}
 use native.Mathlib.Nat.{le_refl, le_trans, le_of_eq, mul-le-mul_right, eq-zero-or-pos}
 use native.Mathlib.Omega.{arith}
@@ -83,7 +83,7 @@ module _ (t : ℕ) where
           (le_trans (pow_mono many) (le_trans (le_of_eq (pow-add 2 23 k)) (mul-le-mul_right (2 ^ k) some)))
 
   -- below the normal range: in normal form and packed, and a zero
-  packed : (m j : ℕ) (n : Parts) (r : ℕ) → Counts m j → Normal false m (j + 54) n → Packed binary32 n r → NarrowedTo t r
+  packed : (m j : ℕ) (n : Parts) (r : ℕ) → Counts m j → Normal m (j + 54) n → Packed binary32 n r → NarrowedTo t r
   packed m j n r v N P =
       record {
         most = P.most;
@@ -92,14 +92,14 @@ module _ (t : ℕ) where
             (same_value (of s) s (m * 2 ^ j) (2 ^ 1074) (m * 2 ^ (j + 54)) (2 ^ 1128) (pow_pos 1074) (shifted binary64 m j) (v s)));
       }
 
-  pub small : (n : Parts) (r : ℕ) → 0 < field → field < 897 → Normal false digits (field - 1 + 54) n → Packed binary32 n r → NarrowedTo t r
+  pub small : (n : Parts) (r : ℕ) → 0 < field → field < 897 → Normal digits (field - 1 + 54) n → Packed binary32 n r → NarrowedTo t r
   small n r p h = packed digits (field - 1) n r (counts p (omega arith))
 
-  pub tiny : (n : Parts) (r : ℕ) → field ≤ 0 → Normal false t (0 + 54) n → Packed binary32 n r → NarrowedTo t r
+  pub tiny : (n : Parts) (r : ℕ) → field ≤ 0 → Normal t (0 + 54) n → Packed binary32 n r → NarrowedTo t r
   tiny n r h =
       let e : t % hid binary64 ≡ t = omega arith in
       packed t 0 n r (λ s. subst (λ (m : ℕ). HasValue (of s) s (m * 2 ^ 0) (2 ^ 1074)) e (fields_low binary64 s field (t % hid binary64) h))
 
   pub none : t ≤ 0 → NarrowedTo t 0
   none h =
-      record { most = zero-le; is = λ s. (rounded_zero binary32 s).is binary64 (of s) (fields_zero binary64 s field (t % hid binary64) (omega arith) (omega arith)) }
+      record { most = zero-le; is = λ s. rounded_zero binary32 s (of s) (fields_zero binary64 s field (t % hid binary64) (omega arith) (omega arith)) }

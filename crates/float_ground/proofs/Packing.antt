@@ -40,10 +40,6 @@ spare : (f : Format) → (prec f + (55 - prec f) ≡ 55) × (prec f - 1 + (55 - 
 spare binary32 = (refl, refl, refl, omega arith)
 spare binary64 = (refl, refl, refl, omega arith)
 
-pub spare_in : (f : Format) → (1 ≤ 55 - prec f) × (55 - prec f ≤ 55) × (55 - prec f ≤ 1128 - low f)
-spare_in binary32 = omega arith
-spare_in binary64 = omega arith
-
 module _ (f : Format) (n : Parts) (N : Tidy n) where
   abbrev m : ℕ
   m = n.significand

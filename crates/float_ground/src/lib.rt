@@ -8,8 +8,6 @@ ghost use Rattle.std.specs.Float.Ieee.Scale.{finite};
 ghost use Rattle.float_laws.specs.Absolute.{abs_of};
 ghost use Rattle.float_laws.specs.Root.{Root, root_of};
 
-use parts::Width;
-
 pub mod narrowing;
 mod pack;
 mod parts;
@@ -45,11 +43,7 @@ pub fn abs_f32(x: f32) -> f32
 pub fn widen(x: f32) -> f64
     ensures { result ≡ x }
 {
-    // by the cast, one instruction; a subnormal goes by its leading zeros, and a NaN may not be cast
-    if (f32::from_bits(0x80_0000) <= x) | (x <= f32::from_bits(0x8080_0000)) {
-        return x as f64;
-    }
-    pack::float64(pack::round_to(Width::W64, parts::take_apart32(x)))
+    std::num::f32_to_f64_with_nan(x)
 }
 
 // x's square root, rounded once: a zero for a zero, of the same sign, NaN for a NaN and for a number

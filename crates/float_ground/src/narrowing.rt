@@ -3,7 +3,6 @@ ghost use Rattle.std.specs.Prelude.{◌≡◌};
 ghost use Rattle.float_ground.specs.Narrowed.{narrowed_of, value_of, loss_of};
 
 use super::pack;
-use super::parts::Width;
 
 // What narrowing answers, with the number.
 #[derive(Clone, Copy)]
@@ -22,9 +21,7 @@ impl Narrowed {
         ensures { result ≡ value_of self }
     {
         match self {
-            Narrowed::Exact(r) => r,
-            Narrowed::Rounded(r) => r,
-            Narrowed::ToInfinity(r) => r,
+            Narrowed::Exact(r) | Narrowed::Rounded(r) | Narrowed::ToInfinity(r) => r,
         }
     }
 
@@ -50,7 +47,7 @@ pub fn narrow(x: f64) -> Narrowed
     }
     let b = f64::to_bits(x);
     let rest = pack::narrowed(b % 0x8000_0000_0000_0000);
-    let r = pack::float32(pack::signed(Width::W32, b >= 0x8000_0000_0000_0000, rest));
+    let r = f32::from_bits(pack::signed(b >= 0x8000_0000_0000_0000, rest));
     if r as f64 == x {
         return Narrowed::Exact(r);
     }

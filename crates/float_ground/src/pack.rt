@@ -1,12 +1,12 @@
-// A float put together. `round_shift` is all that rounds.
+// The pattern of an `f32` put together. `round_shift` is all that rounds.
 ghost use Rattle.std.specs.Prelude.{◌≡◌, cond, ◌+◌, ◌*◌, ◌%◌, ◌^◌, ◌≤◌, ◌<◌};
 ghost use Rattle.std.specs.Float.{binary32, binary64};
 ghost use Rattle.std.specs.Float.Ieee.{hid, ones, top};
 ghost use Rattle.std.specs.Float.Ieee.Nearest.{closest};
-ghost use Rattle.float_ground.specs.Parts.{format_of, Tidy, Packed, NarrowedTo, Plain, float_of, TidyApart, RoundedTo};
+ghost use Rattle.float_ground.specs.Parts.{Tidy, Packed, NarrowedTo};
 
 use super::parts;
-use super::parts::{Apart, Parts, Width};
+use super::parts::Parts;
 
 // 1 where a tie goes up: from an odd number to the even one after it.
 fn up_at_tie(q: u64) -> u64
@@ -26,27 +26,26 @@ fn round_shift(m: u64, t: u64) -> u64
 }
 
 // n's pattern without its sign, rounded once, a tie to the even one: the infinity's from halfway above the
-// largest value up, and below the normal range as many digits as are left there.
-pub fn pack(w: Width, n: Parts) -> u64
+// largest value up, and below the normal range as many digits as are left there. With the significand 1 the
+// smallest value has the exponent 979, and a value has no room for 31 digits of a normal form.
+pub fn pack(n: Parts) -> u64
     requires { Tidy n }
-    ensures { Packed (format_of w) n result }
+    ensures { Packed binary32 n result }
 {
-    let l = w.layout();
-    let first = l.lowest - l.spare;
-    if n.exponent < first {
-        let t = l.lowest - n.exponent;
+    if n.exponent < 979 - 31 {
+        let t = 979 - n.exponent;
         if t > 55 {
             // less than half of the smallest value
             return 0;
         }
         return round_shift(n.significand, t);
     }
-    let k = n.exponent - first;
-    if k + 1 >= l.infinite {
-        return l.infinity;
+    let k = n.exponent - (979 - 31);
+    if k + 1 >= 255 {
+        return 0x7f80_0000;
     }
     // a carry out of the digits goes into the field
-    k * l.hidden + round_shift(n.significand, l.spare)
+    k * 0x80_0000 + round_shift(n.significand, 31)
 }
 
 // As `narrowed`, below the normal range: the number is brought to normal form by its leading zeros, and packed.
@@ -58,10 +57,10 @@ fn small(t: u64) -> u64
     let field = t >> 52;
     if field > 0 {
         let m = t % 0x10_0000_0000_0000 + 0x10_0000_0000_0000;
-        return pack(Width::W32, parts::normal(false, m, field - 1, 54));
+        return pack(parts::normal(m, field - 1));
     }
     if t > 0 {
-        return pack(Width::W32, parts::normal(false, t, 0, 54));
+        return pack(parts::normal(t, 0));
     }
     0
 }
@@ -84,62 +83,13 @@ pub fn narrowed(t: u64) -> u64
     round_shift(t - 0x3800_0000_0000_0000, 29)
 }
 
-// A float's pattern; nothing for a NaN, whose pattern is left open.
-#[derive(Clone, Copy)]
-pub enum Pattern {
-    Nothing,
-    Bits(u64),
-}
-
 // The pattern of a sign and the rest.
-pub fn signed(w: Width, negative: bool, rest: u64) -> Pattern
-    requires { rest ≤ ones (format_of w) * hid (format_of w) }
-    ensures { result ≡ Pattern.Bits (cond negative (top (format_of w)) 0 + rest) }
+pub fn signed(negative: bool, rest: u64) -> u32
+    requires { rest ≤ ones binary32 * hid binary32 }
+    ensures { result ≡ cond negative (top binary32) 0 + rest }
 {
     if negative {
-        return Pattern::Bits(w.layout().sign + rest);
+        return 0x8000_0000 + rest as u32;
     }
-    Pattern::Bits(rest)
-}
-
-// The pattern of an infinity.
-pub fn infinite(w: Width, negative: bool) -> Pattern
-    ensures { result ≡ Pattern.Bits (cond negative (top (format_of w)) 0 + ones (format_of w) * hid (format_of w)) }
-{
-    signed(w, negative, w.layout().infinity)
-}
-
-// What was taken apart, rounded once to a format.
-pub fn round_to(w: Width, a: Apart) -> Pattern
-    requires { TidyApart a }
-    ensures { RoundedTo (format_of w) a result }
-{
-    match a {
-        Apart::Nan => Pattern::Nothing,
-        Apart::Infinite(negative) => infinite(w, negative),
-        Apart::Zero(negative) => signed(w, negative, 0),
-        Apart::Number(n) => signed(w, n.negative, pack(w, n)),
-    }
-}
-
-// The float of a pattern, NaN for nothing.
-pub fn float32(p: Pattern) -> f32
-    requires { Plain binary32 p }
-    ensures { result ≡ float_of binary32 p }
-{
-    let Pattern::Bits(b) = p else {
-        return 0.0 / 0.0;
-    };
-    f32::from_bits(b as u32)
-}
-
-// The float of a pattern, NaN for nothing.
-pub fn float64(p: Pattern) -> f64
-    requires { Plain binary64 p }
-    ensures { result ≡ float_of binary64 p }
-{
-    let Pattern::Bits(b) = p else {
-        return 0.0 / 0.0;
-    };
-    f64::from_bits(b)
+    rest as u32
 }

@@ -15,6 +15,7 @@ fn has_entry(k: u32) -> bool
 }
 
 // The table's entry for k: the whole part of the root of k * 65536, for k from 256 to 1023; 0 for any other k.
+#[tactic(auto, using(crate::proofs::Only::inside, crate::proofs::Only::entry_is, crate::proofs::Only::no_entry))]
 pub fn table_entry(k: u32) -> u32
     ensures { result ≡ entry_of k }
 {
@@ -25,6 +26,7 @@ pub fn table_entry(k: u32) -> u32
 }
 
 // The same entry, as the roots read it.
+#[tactic(auto, using(crate::proofs::Only::inside, crate::proofs::Only::entry_is, crate::proofs::Only::no_entry))]
 pub fn packed_entry(k: u32) -> u32
     ensures { result ≡ entry_of k }
 {
@@ -38,12 +40,10 @@ pub fn packed_entry(k: u32) -> u32
 pub fn read_alike() -> u32
     ensures { result ≡ 768 }
 {
-    let mut k: u32 = 256;
-    while k < 1024 {
+    for k in 256..1024 {
         if table_entry(k) != packed_entry(k) {
             return k - 256;
         }
-        k = k + 1;
     }
     768
 }
@@ -57,7 +57,8 @@ pub fn root24(g: u32, t: u32) -> u32
 }
 
 // The root of n * 2^52 to the nearest whole number, from 2^52 to 2^53: n has a leading 1 at 2^53 and below it the digits of t,
-// and is halved where g is even.
+// and is halved where g is even. Generic over u32 and u64, it and `root24` would ask for a trait with each operator and what that
+// requires, which is no plainer.
 pub fn root53(g: u64, t: u64) -> u64
     ensures { result ≡ nearest_root (radicand 53 g t * 2 ^ 52) }
 {

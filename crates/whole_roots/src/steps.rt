@@ -46,7 +46,7 @@ fn near27(n: u64) -> u64
     (s * 2048 + q) as u64
 }
 
-// The nearest whole number to the root of n * 2^52.
+// The nearest whole number to the root of n * 2^52; beside `nearest24` for the reason that `root53` has.
 pub fn nearest53(n: u64) -> u64
     requires low { 2 ^ 52 ≤ n }
     requires high { n < 2 ^ 54 }

@@ -25,10 +25,13 @@ pub overflow_add-result : goal.overflow_add-result
 overflow_add-result c = omega (arith, half c, half_lt c)
 
 pub overflow_add-result-2 : goal.overflow_add-result-2
-overflow_add-result-2 c = omega (arith, half (goal.at.overflow_add-result-2 c).Start, half_lt (goal.at.overflow_add-result-2 c).Start, c.up_at_tie.ensures)
+overflow_add-result-2 c =
+    let at = (goal.at.overflow_add-result-2 c).Start in
+    omega (arith, half at, half_lt at, c.up_at_tie.ensures)
 
 pub returns : goal.returns
 returns c =
+    let at = (goal.at.returns c).Start in
     let m = c.args.m in
-    rw (half (goal.at.returns c).Start, c.up_at_tie.ensures) (subst
-    (λ (x : ℕ). (m + (2 ^ (c.args.t - 1) - 1) + m / 2 ^ x % 2) / 2 ^ x ≡ closest m (2 ^ x)) (next (goal.at.returns c).Start) (shift_closest m (c.args.t - 1)))
+    rw (half at, c.up_at_tie.ensures) (subst
+    (λ (x : ℕ). (m + (2 ^ (c.args.t - 1) - 1) + m / 2 ^ x % 2) / 2 ^ x ≡ closest m (2 ^ x)) (next at) (shift_closest m (c.args.t - 1)))

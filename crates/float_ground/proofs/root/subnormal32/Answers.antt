@@ -39,9 +39,10 @@ root32-requires c = record { exponent = omega arith; even = ap (λ (y : ℕ). y 
 
 pub returns : goal.returns
 returns c =
-    let t = b (goal.at.returns c).Start * 2 ^ z (goal.at.returns c).Start % 2 ^ 32 in
-    let digits : t % 2 ^ wide binary32 + 2 ^ wide binary32 ≡ b (goal.at.returns c).Start * 2 ^ z (goal.at.returns c).Start =
-    ap (λ (y : ℕ). y % 2 ^ 31 + 2 ^ 31) (t-is (goal.at.returns c).Start) ∙ leading (b (goal.at.returns c).Start * 2 ^ z (goal.at.returns c).Start) (2 ^ 31) (of-b (goal.at.returns c).Start).at_least (of-b (goal.at.returns c).Start).under in
-    let sum : 0 + (low binary32 + low binary32 + 1 - zeros binary32) ≡ z (goal.at.returns c).Start + (134 - z (goal.at.returns c).Start) + low binary32 = omega (arith, (of-b (goal.at.returns c).Start).few) in
-    c.root32.ensures (of_bits binary32 (b (goal.at.returns c).Start)) (value_by binary32 (of_bits binary32 (b (goal.at.returns c).Start)) (b (goal.at.returns c).Start) 0 (z (goal.at.returns c).Start) (134 - z (goal.at.returns c).Start) t
-    (subnormal_value binary32 (b (goal.at.returns c).Start) c.requires.high) digits sum)
+    let at = (goal.at.returns c).Start in
+    let t = b at * 2 ^ z at % 2 ^ 32 in
+    let digits : t % 2 ^ wide binary32 + 2 ^ wide binary32 ≡ b at * 2 ^ z at =
+    ap (λ (y : ℕ). y % 2 ^ 31 + 2 ^ 31) (t-is at) ∙ leading (b at * 2 ^ z at) (2 ^ 31) (of-b at).at_least (of-b at).under in
+    let sum : 0 + (low binary32 + low binary32 + 1 - zeros binary32) ≡ z at + (134 - z at) + low binary32 = omega (arith, (of-b at).few) in
+    c.root32.ensures (of_bits binary32 (b at)) (value_by binary32 (of_bits binary32 (b at)) (b at) 0 (z at) (134 - z at) t
+    (subnormal_value binary32 (b at) c.requires.high) digits sum)

@@ -45,9 +45,10 @@ root64-requires c = record { exponent = omega arith; even = ap (λ (y : ℕ). y 
 
 pub returns : goal.returns
 returns c =
-    let t = b (goal.at.returns c).Start * 2 ^ z (goal.at.returns c).Start % 2 ^ 64 in
-    let digits : t % 2 ^ wide binary64 + 2 ^ wide binary64 ≡ b (goal.at.returns c).Start * 2 ^ z (goal.at.returns c).Start =
-    ap (λ (y : ℕ). y % 2 ^ 53 + 2 ^ 53) (t-is (goal.at.returns c).Start) ∙ leading (b (goal.at.returns c).Start * 2 ^ z (goal.at.returns c).Start) (2 ^ 53) (of-b (goal.at.returns c).Start).at_least (of-b (goal.at.returns c).Start).under in
-    let sum : 0 + (low binary64 + low binary64 + 1 - zeros binary64) ≡ z (goal.at.returns c).Start + (1023 - z (goal.at.returns c).Start) + low binary64 = omega (arith, (of-b (goal.at.returns c).Start).few) in
-    c.root64.ensures (of_bits binary64 (b (goal.at.returns c).Start)) (value_by binary64 (of_bits binary64 (b (goal.at.returns c).Start)) (b (goal.at.returns c).Start) 0 (z (goal.at.returns c).Start) (1023 - z (goal.at.returns c).Start) t
-    (subnormal_value binary64 (b (goal.at.returns c).Start) c.requires.high) digits sum)
+    let at = (goal.at.returns c).Start in
+    let t = b at * 2 ^ z at % 2 ^ 64 in
+    let digits : t % 2 ^ wide binary64 + 2 ^ wide binary64 ≡ b at * 2 ^ z at =
+    ap (λ (y : ℕ). y % 2 ^ 53 + 2 ^ 53) (t-is at) ∙ leading (b at * 2 ^ z at) (2 ^ 53) (of-b at).at_least (of-b at).under in
+    let sum : 0 + (low binary64 + low binary64 + 1 - zeros binary64) ≡ z at + (1023 - z at) + low binary64 = omega (arith, (of-b at).few) in
+    c.root64.ensures (of_bits binary64 (b at)) (value_by binary64 (of_bits binary64 (b at)) (b at) 0 (z at) (1023 - z at) t
+    (subnormal_value binary64 (b at) c.requires.high) digits sum)

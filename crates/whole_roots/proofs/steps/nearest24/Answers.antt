@@ -80,14 +80,18 @@ pub overflow_add-p-2 : goal.overflow_add-p-2
 overflow_add-p-2 c = record { fits = omega (arith, square_le c, p_most c, hi c) }
 
 pub overflow_add-result : goal.overflow_add-result
-overflow_add-result c = record { fits = omega (arith, hi (goal.at.overflow_add-result c).After-near-s, p_most (goal.at.overflow_add-result c).After-near-s) }
+overflow_add-result c =
+    let at = (goal.at.overflow_add-result c).After-near-s in
+    record { fits = omega (arith, hi at, p_most at) }
 
 pub returns-then-t-p : goal.returns-then-t-p
 returns-then-t-p c =
-    subst (λ (m : ℕ). Nearest (m * 65536) (s (goal.at.returns-then-t-p c).After-near-s * 256 + p (goal.at.returns-then-t-p c).After-near-s + 1)) (n-is (goal.at.returns-then-t-p c).After-near-s)
-    (last.goes_up 256 11 (s (goal.at.returns-then-t-p c).After-near-s) (rest (goal.at.returns-then-t-p c).After-near-s) (some (goal.at.returns-then-t-p c).After-near-s) c.if-t-p.true (omega (arith, u_lt (goal.at.returns-then-t-p c).After-near-s, p_most (goal.at.returns-then-t-p c).After-near-s, lo (goal.at.returns-then-t-p c).After-near-s)))
+    let at = (goal.at.returns-then-t-p c).After-near-s in
+    subst (λ (m : ℕ). Nearest (m * 65536) (s at * 256 + p at + 1)) (n-is at)
+    (last.goes_up 256 11 (s at) (rest at) (some at) c.if-t-p.true (omega (arith, u_lt at, p_most at, lo at)))
 
 pub returns-else-t-p : goal.returns-else-t-p
 returns-else-t-p c =
-    subst (λ (m : ℕ). Nearest (m * 65536) (s (goal.at.returns-else-t-p c).After-near-s * 256 + p (goal.at.returns-else-t-p c).After-near-s)) (n-is (goal.at.returns-else-t-p c).After-near-s)
-    (last.stays 256 11 (s (goal.at.returns-else-t-p c).After-near-s) (rest (goal.at.returns-else-t-p c).After-near-s) (some (goal.at.returns-else-t-p c).After-near-s) c.if-t-p.false (omega (arith, last.u_ge 256 11 (s (goal.at.returns-else-t-p c).After-near-s) (rest (goal.at.returns-else-t-p c).After-near-s) (some (goal.at.returns-else-t-p c).After-near-s), square_le (goal.at.returns-else-t-p c).After-near-s, lo (goal.at.returns-else-t-p c).After-near-s)))
+    let at = (goal.at.returns-else-t-p c).After-near-s in
+    subst (λ (m : ℕ). Nearest (m * 65536) (s at * 256 + p at)) (n-is at)
+    (last.stays 256 11 (s at) (rest at) (some at) c.if-t-p.false (omega (arith, last.u_ge 256 11 (s at) (rest at) (some at), square_le at, lo at)))

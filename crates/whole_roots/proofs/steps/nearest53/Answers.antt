@@ -87,14 +87,18 @@ pub overflow_add-p-2 : goal.overflow_add-p-2
 overflow_add-p-2 c = record { fits = omega (arith, square_le c, p_most c, hi c) }
 
 pub overflow_add-result : goal.overflow_add-result
-overflow_add-result c = record { fits = omega (arith, hi (goal.at.overflow_add-result c).After-near27-s, p_most (goal.at.overflow_add-result c).After-near27-s) }
+overflow_add-result c =
+    let at = (goal.at.overflow_add-result c).After-near27-s in
+    record { fits = omega (arith, hi at, p_most at) }
 
 pub returns-then-t-p : goal.returns-then-t-p
 returns-then-t-p c =
-    subst (λ (m : ℕ). Nearest (m * 4503599627370496) (s (goal.at.returns-then-t-p c).After-near27-s * 67108864 + p (goal.at.returns-then-t-p c).After-near27-s + 1)) (n-is (goal.at.returns-then-t-p c).After-near27-s)
-    (last.goes_up 67108864 2 (s (goal.at.returns-then-t-p c).After-near27-s) (rest (goal.at.returns-then-t-p c).After-near27-s) (some (goal.at.returns-then-t-p c).After-near27-s) c.if-t-p.true (omega (arith, u_lt (goal.at.returns-then-t-p c).After-near27-s, enough (p (goal.at.returns-then-t-p c).After-near27-s) (s (goal.at.returns-then-t-p c).After-near27-s) (lo (goal.at.returns-then-t-p c).After-near27-s) (split (p (goal.at.returns-then-t-p c).After-near27-s) 25165824))))
+    let at = (goal.at.returns-then-t-p c).After-near27-s in
+    subst (λ (m : ℕ). Nearest (m * 4503599627370496) (s at * 67108864 + p at + 1)) (n-is at)
+    (last.goes_up 67108864 2 (s at) (rest at) (some at) c.if-t-p.true (omega (arith, u_lt at, enough (p at) (s at) (lo at) (split (p at) 25165824))))
 
 pub returns-else-t-p : goal.returns-else-t-p
 returns-else-t-p c =
-    subst (λ (m : ℕ). Nearest (m * 4503599627370496) (s (goal.at.returns-else-t-p c).After-near27-s * 67108864 + p (goal.at.returns-else-t-p c).After-near27-s)) (n-is (goal.at.returns-else-t-p c).After-near27-s)
-    (last.stays 67108864 2 (s (goal.at.returns-else-t-p c).After-near27-s) (rest (goal.at.returns-else-t-p c).After-near27-s) (some (goal.at.returns-else-t-p c).After-near27-s) c.if-t-p.false (omega (arith, last.u_ge 67108864 2 (s (goal.at.returns-else-t-p c).After-near27-s) (rest (goal.at.returns-else-t-p c).After-near27-s) (some (goal.at.returns-else-t-p c).After-near27-s), square_le (goal.at.returns-else-t-p c).After-near27-s, lo (goal.at.returns-else-t-p c).After-near27-s)))
+    let at = (goal.at.returns-else-t-p c).After-near27-s in
+    subst (λ (m : ℕ). Nearest (m * 4503599627370496) (s at * 67108864 + p at)) (n-is at)
+    (last.stays 67108864 2 (s at) (rest at) (some at) c.if-t-p.false (omega (arith, last.u_ge 67108864 2 (s at) (rest at) (some at), square_le at, lo at)))
