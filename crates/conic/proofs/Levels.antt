@@ -1,7 +1,7 @@
 -- A level that is chosen is no higher than the ceiling, and an answer has the number and the values that the table gives it. Assumes nothing.
 use mathlib.Core.Path.{◌≡◌, refl, ap, ◌∙◌}
 use mathlib.Core.Bool.{Bool, true, false, cond}
-use Prim.Native.Nat.{ℕ, zero, suc, ◌≤◌}
+use Prim.Native.Nat.{ℕ, zero, suc, max, ◌+◌, ◌-◌, ◌<◌, ◌≤◌}
 use native.Mathlib.Omega.{arith}
 use lib.Ieee.{Float, le}
 use Rattle.std.specs.Prelude.{Result, Ok, Err}
@@ -30,6 +30,25 @@ pub level_low : (m : ℕ) (c : Conic) (t : Float) → 1 ≤ m → level_of m c t
 unfolding level_of
 level_low m c t k = low (quarterings_of m (error_of c) t) m (few m (error_of c) t) k
 
+pub within : (n : ℕ) (e t : Float) → le e t ≡ true → quarterings_of n e t ≡ 0
+unfolding quarterings_of
+within zero e t h = refl
+within (suc n) e t h = rw h
+
+pub none : (n : ℕ) (e t : Float) → n ≡ 0 → quarterings_of n e t ≡ 0
+unfolding quarterings_of
+none n e t h = rw h
+
+-- one step more, of n at most of which p are done
+pub beyond : (n p : ℕ) (e t : Float) → p < n → le e t ≡ false
+    → quarterings_of (n - p) e t ≡ suc (quarterings_of (n - (p + 1)) (e ⊗ quarter32) t)
+unfolding quarterings_of
+beyond n p e t h f = let k : n - p ≡ suc (n - (p + 1)) = omega arith in rw (k, f)
+
+pub at_least : (n : ℕ) → max n 1 ≡ at_least_one n
+at_least zero = refl
+at_least (suc n) = omega arith
+
 module _ {A : Type 0} (of : Result ℕ Refusal → A) where
   of_answer : (none bad short good : Bool) (n : ℕ)
       → of (cond none (Err LevelTooHigh)
@@ -50,33 +69,8 @@ module _ {A : Type 0} (of : Result ℕ Refusal → A) where
 pub chosen : {m : ℕ} {short : Bool} {c : Conic} {t : Float} {r : Result ℕ Refusal} → r ≡ level_answer m short c t → Chosen m short c t r
 chosen {m} {short} {c} {t} {r} e = record { answer = e; number = told number_of_level m short c t r e; values = told values_of_level m short c t r e }
 
--- ---- the two steps of an answer
-by_limits : (none bad : Bool) (l k : Limits) → cond none (Err LevelTooHigh) (cond bad (Err BadTolerance) (Ok l)) ≡ Ok k → (none ≡ false) × (bad ≡ false) × (l ≡ k)
-by_limits true bad l k e = let z : ◌≡◌ {A = ℕ} 0 1 = cc in absurd (omega arith)
-by_limits false true l k e = let z : ◌≡◌ {A = ℕ} 0 1 = cc in absurd (omega arith)
-by_limits false false l k e = (refl, refl, cc)
-
-refused : (none bad : Bool) (l : Limits) (why : Refusal) (r : Result ℕ Refusal) → cond none (Err LevelTooHigh) (cond bad (Err BadTolerance) (Ok l)) ≡ Err why
-    → ◌≡◌ {A = Result ℕ Refusal} (Err why) (cond none (Err LevelTooHigh) (cond bad (Err BadTolerance) r))
-refused true bad l why r e = cc
-refused false true l why r e = cc
-refused false false l why r e = let z : ◌≡◌ {A = ℕ} 0 1 = cc in absurd (omega arith)
-
--- refused by its limits
-pub refused_first : (m : ℕ) (short : Bool) (c : Conic) (t : Float) (why : Refusal) → limits_of t m ≡ Err why → Chosen m short c t (Err why)
+-- within the limits the answer is the level's
+pub by_level : (m : ℕ) (short : Bool) (c : Conic) (t : Float) (l : Limits) (r : Result ℕ Refusal) → short ≡ false → limits_of t m ≡ Ok l
+    → r ≡ level_by l c → Chosen m short c t r
 unfolding level_answer
-refused_first m short c t why e =
-    chosen (refused (bad_ceiling m) (bad_tolerance t) (record { tolerance = t; ceiling = m }) why _ e)
-
--- within its limits: short, or by its level
-pub refused_short : (m : ℕ) (c : Conic) (t : Float) (l : Limits) → limits_of t m ≡ Ok l → Chosen m true c t (Err BufferTooShort)
-unfolding level_answer
-refused_short m c t l e =
-    let k = by_limits (bad_ceiling m) (bad_tolerance t) (record { tolerance = t; ceiling = m }) l e in
-    chosen (rw (k.0, k.1) refl)
-
-pub by_level : (m : ℕ) (c : Conic) (t : Float) (l : Limits) (r : Result ℕ Refusal) → limits_of t m ≡ Ok l → r ≡ level_by l c → Chosen m false c t r
-unfolding level_answer
-by_level m c t l r e h =
-    let k = by_limits (bad_ceiling m) (bad_tolerance t) (record { tolerance = t; ceiling = m }) l e in
-    chosen (h ∙ rw (k.0, k.1, ← k.2) refl)
+by_level m short c t l r s e h = grind (arith, chosen)

@@ -14,9 +14,6 @@ use Rattle.conic.specs.Mend.{ordered_of, in_order, mended_of, stays_of}
 pub lines_whole : (p q l : Lines) → l ≡ p → whole_middle l ≡ true → l ≡ cond (whole_middle p) p q
 lines_whole p q l e w = let h : whole_middle p ≡ true = ap whole_middle (sym e) ∙ w in rw h e
 
-pub lines_wide : (p q l : Lines) → l ≡ p → whole_middle l ≡ false → q ≡ cond (whole_middle p) p q
-lines_wide p q l e w = let h : whole_middle p ≡ false = ap whole_middle (sym e) ∙ w in rw h refl
-
 -- ---- a line that stays
 all_three : (p q r : Bool) → ((p && q) && r) ≡ true → (p ≡ true) × ((q ≡ true) × (r ≡ true))
 all_three true true r h = (refl, (refl, h))

@@ -1,4 +1,6 @@
 // The formulas of a chop, one axis at a time. Carried over from `path_geometry.rs` of tiny-skia-path 0.12.0.
+#![tactic(auto, unfolding(crate::specs::Chop::line_of, crate::specs::Chop::halves_at, crate::specs::Chop::lines_at, crate::specs::Rule::test_along))]
+
 ghost use Rattle.std.specs.Prelude.{◌≡◌};
 ghost use Rattle.conic.specs.Chop.{line_of, wide_middle, plain_lines, whole_middle, lines_at, mended_by, mended_lines, settled_lines, halves_at};
 
@@ -36,6 +38,7 @@ fn plain(a: f32, b: f32, c: f32, weight: f32, scale: f32) -> Line
 }
 
 // The middle of a line computed through `f64`, and narrowed once.
+#[tactic(auto, using(float_ground::proofs::Losses::carried), unfolding(crate::specs::Chop::wide_middle))]
 fn wide_middle(a: f32, b: f32, c: f32, weight: f32) -> f32
     ensures { result ≡ wide_middle a b c weight }
 {

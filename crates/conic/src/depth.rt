@@ -1,5 +1,7 @@
 // What all conics of one depth of a cut share, for a cut to compute once a depth. A single conic is halved by
 // `Conic::chop_by_rule`.
+#![tactic(auto, unfolding(crate::specs::Chop::chop_at))]
+
 ghost use Rattle.std.specs.Prelude.{◌≡◌};
 ghost use Rattle.conic.specs.Chop.{scale_of, depth_of, chop_at};
 

@@ -110,6 +110,7 @@ impl Conic {
     }
 
     // The conic of the first six numbers, x and y of each point; refused where there are fewer.
+    #[tactic(auto, using(crate::proofs::Sources::taken), unfolding(crate::specs::Source::source_answer, crate::specs::Source::conic_of))]
     pub fn from_points(src: &[f32], weight: f32, rule: Rule) -> Result<Conic, Refusal>
         ensures { Taken src.now weight rule result }
     {
@@ -132,6 +133,7 @@ impl Conic {
     }
 
     // Both halves, as the formulas give them, with the conic's rule.
+    #[tactic(auto, unfolding(crate::specs::Chop::chop_of))]
     pub fn chop(self) -> Halves
         ensures { result ≡ chop_of self }
     {
@@ -148,6 +150,7 @@ impl Conic {
     }
 
     // Both halves, moved into order along each axis on which the rule's test finds the conic's own points in order.
+    #[tactic(auto, unfolding(crate::specs::Chop::chop_by_rule))]
     pub fn chop_by_rule(self) -> Halves
         ensures { result ≡ chop_by_rule self }
     {
@@ -157,6 +160,7 @@ impl Conic {
     // The least level, from 1 on, at which the estimate of the quads' distance from the conic is within the tolerance; at
     // most the ceiling, where it need not be. Refused for a ceiling that is neither of the two above, then for a bad
     // tolerance, and then for a point that is not finite.
+    #[tactic(auto, using(crate::proofs::Levels::chosen), unfolding(crate::specs::Level::level_answer))]
     pub fn compute_quad_pow2(self, tolerance: f32, ceiling: u32) -> Result<u32, Refusal>
         ensures { Chosen ceiling false self tolerance result }
     {
@@ -164,6 +168,7 @@ impl Conic {
     }
 
     // The same of the conic of the first six numbers. Fewer are refused after a bad tolerance. A rule has no part in it.
+    #[tactic(auto, using(crate::proofs::Levels::chosen), unfolding(crate::specs::Level::level_answer, crate::specs::Source::source_answer))]
     pub fn compute_quad_pow2_from(
         src: &[f32],
         weight: f32,

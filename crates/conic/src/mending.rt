@@ -1,4 +1,6 @@
 // The corrections after a chop, along one axis. Carried over from `subdivide` in `path_geometry.rs` of tiny-skia-path 0.12.0.
+#![tactic(auto, unfolding(crate::specs::Mend::nearer_of, crate::specs::Mend::ordered_of, crate::specs::Mend::rises_of, crate::specs::Mend::runs_of, crate::specs::Mend::settled_of))]
+
 ghost use Rattle.std.specs.Prelude.{◌≡◌, cond};
 ghost use Rattle.conic.specs.Between.{passes};
 ghost use Rattle.conic.specs.Mend.{nearer_of, ordered_of, rises_of, runs_of, settled_of, mended_of};
@@ -72,6 +74,7 @@ pub fn is_settled(a: f32, c: f32, l: Line) -> bool
 }
 
 // The line of a chop from a to c: put in order where b lies between them.
+#[tactic(auto, using(crate::proofs::OneWay::settled_left), unfolding(crate::specs::Mend::mended_of))]
 pub fn mended(test: Test, a: f32, b: f32, c: f32, l: Line) -> Line
     ensures { result ≡ mended_of test a b c l }
 {

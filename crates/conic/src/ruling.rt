@@ -1,4 +1,6 @@
 // The between tests that a rule puts an axis in order by.
+#![tactic(auto, unfolding(crate::specs::Between::passes))]
+
 ghost use Rattle.std.specs.Prelude.{◌≡◌};
 ghost use Rattle.conic.specs.Between.{passes};
 

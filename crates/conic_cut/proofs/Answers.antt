@@ -2,20 +2,20 @@
 use mathlib.Core.Path.{◌≡◌, refl, sym, ap, ◌∙◌, subst⁻¹}
 use mathlib.Core.Bool.{Bool, true, false, cond, ◌||◌}
 use mathlib.Core.List.{List, ◌++◌}
-use Prim.Native.Nat.{ℕ, ◌^◌, ◌≤◌, ◌<◌}
+use Prim.Native.Nat.{ℕ, ◌^◌, ◌≤◌}
 use native.Mathlib.Omega.{arith}
-use borrow.Author.Tests.{lt-ltb, le-ltb}
+use borrow.Author.Tests.{le-ltb}
 use lib.Dec.{ltb}
 use lib.ListN.{length, drop}
 use lib.Seq.{sets, take_at, drop_at}
 use lib.Ieee.{Float}
+use Rattle.std.specs.Prelude.{Result, Ok, Err}
 use Rattle.conic.specs.declared.Conic.{Conic}
 use Rattle.conic.specs.declared.Halves.{Halves}
+use Rattle.conic.specs.declared.Refusal.{Refusal}
 use Rattle.conic.specs.declared.Refusal.TheVariants.{LevelTooHigh, BufferTooShort}
 use Rattle.conic.specs.Chop.{chop_by_rule}
 use Rattle.conic.specs.Level.{ceiling}
-use Rattle.conic_cut.specs.declared.Cut.{Cut}
-use Rattle.conic_cut.specs.declared.Cut.TheVariants.{Quads, Refused}
 use Rattle.point.specs.Numbers.{flat, points_of}
 use Rattle.conic_cut.specs.Cut.{written, room, cut_answer, cut_buffer, number_of_cut, values_of_cut, CutInto}
 use Rattle.conic_cut.specs.Order.{cut_in, InOrder, OrderKept}
@@ -23,14 +23,14 @@ use Rattle.conic_cut.proofs.Lists.{sets_whole}
 use Rattle.conic_cut.proofs.Order.{cut_in_order}
 use Rattle.conic_cut.proofs.Stores.{flat-length, points_flat, written-length}
 
-of_answer : {A : Type 0} (of : Cut → A) (deep short : Bool) (q : ℕ)
-    → of (cond deep (Refused LevelTooHigh) (cond short (Refused BufferTooShort) (Quads q)))
-    ≡ cond deep (of (Refused LevelTooHigh)) (cond short (of (Refused BufferTooShort)) (of (Quads q)))
+of_answer : {A : Type 0} (of : Result ℕ Refusal → A) (deep short : Bool) (q : ℕ)
+    → of (cond deep (Err LevelTooHigh) (cond short (Err BufferTooShort) (Ok q)))
+    ≡ cond deep (of (Err LevelTooHigh)) (cond short (of (Err BufferTooShort)) (of (Ok q)))
 of_answer of true short q = refl
 of_answer of false true q = refl
 of_answer of false false q = refl
 
-pub cut_into : {f : Conic → Halves} {n : ℕ} {c : Conic} {short : Bool} {l : List Float} {r : Cut} {l₁ : List Float}
+pub cut_into : {f : Conic → Halves} {n : ℕ} {c : Conic} {short : Bool} {l : List Float} {r : Result ℕ Refusal} {l₁ : List Float}
     → r ≡ cut_answer n (length l) short → l₁ ≡ cut_buffer f n c short l → CutInto f n c short l r l₁
 unfolding cut_answer
 cut_into {n = n} {short = short} {l = l} e b = record {
@@ -40,17 +40,8 @@ cut_into {n = n} {short = short} {l = l} e b = record {
   buffer = b;
 }
 
-module _ (f : Conic → Halves) (n : ℕ) (c : Conic) (short : Bool) (l : List Float) where
-  pub too_deep : ceiling < n → CutInto f n c short l (Refused LevelTooHigh) l
-  unfolding cut_answer cut_buffer
-  too_deep h = cut_into (rw (lt-ltb ceiling n h)) (rw (lt-ltb ceiling n h))
-
-  pub too_short : n ≤ ceiling → (ltb (length l) (room n) || short) ≡ true → CutInto f n c short l (Refused BufferTooShort) l
-  unfolding cut_answer cut_buffer
-  too_short h k = cut_into (rw (le-ltb ceiling n h, k)) (rw (le-ltb ceiling n h, k))
-
 module _ (f : Conic → Halves) (n : ℕ) (c : Conic) (l : List Float) (low : n ≤ ceiling) (fits : room n ≤ length l) where
-  pub answer_cut : Quads (2 ^ n) ≡ cut_answer n (length l) false
+  pub answer_cut : Ok (2 ^ n) ≡ cut_answer n (length l) false
   unfolding cut_answer
   answer_cut = rw (le-ltb ceiling n low, le-ltb (length l) (room n) fits)
 
@@ -73,7 +64,15 @@ kept_order n c l l₁ e k o low fits bridge =
       rest = ap (drop (room n)) stored ∙ drop_at (flat ps) (drop (room n) l) (room n) long;
     }
 
+-- the same of what a store leaves
+pub stored_order : (n : ℕ) (c : Conic) (l l₁ : List Float) → n ≤ ceiling → room n ≤ length l
+    → l₁ ≡ sets l 0 (flat (written chop_by_rule n c)) → OrderKept n c l l₁
+stored_order n c l l₁ low fits e = kept_order n c l l₁ (e ∙ stored_cut chop_by_rule n c l low fits)
+
 -- the same of a lent source
 pub kept_order_from : (n : ℕ) (c : Conic) (l l₁ src : List Float)
     → l₁ ≡ cut_buffer chop_by_rule n c (ltb (length src) 6) l → 6 ≤ length src → OrderKept n c l l₁
 kept_order_from n c l l₁ src e h = kept_order n c l l₁ (e ∙ ap (λ (b : Bool). cut_buffer chop_by_rule n c b l) (le-ltb (length src) 6 h))
+
+-- what both calls are proved by
+pub ruleset answers_of_cut = (cut_into, stored_cut, kept_order, kept_order_from)

@@ -1,13 +1,14 @@
 -- The rungs of a cut: storing them from the top down leaves them all, and what a chop by a rung gives. Assumes nothing.
-use mathlib.Core.Path.{◌≡◌, refl, ap, ◌∙◌}
+use mathlib.Core.Path.{◌≡◌, refl, ap, ◌∙◌, subst⁻¹}
 use mathlib.Core.Bool.{true}
 use mathlib.Core.List.{List}
 use Prim.Native.Nat.{ℕ, zero, suc, ◌+◌, ◌-◌, ◌*◌, ◌≤◌, ◌<◌}
 use native.Mathlib.Numerals.{sub-one}
 use native.Mathlib.Omega.{arith}
-use lib.ListN.{length, get_or, set, length-set}
+use lib.ListN.{length, get_or, set, replicate, length-set, length-replicate}
 use lib.Seq.{get_or-set_same, get_or-set_other}
 use lib.Ieee.{Float, nan}
+use Rattle.float_laws.specs.Formula.{zero32}
 use Rattle.conic.specs.declared.Conic.{Conic}
 use Rattle.conic.specs.declared.Halves.{Halves}
 use Rattle.conic.specs.declared.chopping.Lines.{Lines}
@@ -15,23 +16,19 @@ use Rattle.conic.specs.declared.depth.Depth.{Depth}
 use Rattle.conic.specs.Chop.{scale_of, weight_of, plain_lines, whole_middle, settled_lines, halves_at, chop_at, chop_by_rule}
 use Rattle.conic.proofs.OneWay.{plain_is_the_chop}
 use Rattle.conic_cut.specs.Cut.{cut_points}
-use Rattle.conic_cut.specs.Ladder.{rungs_of, rung_at, Rungs}
+use Rattle.conic_cut.specs.Ladder.{deepest, rungs_of, rung_at, Rungs}
 
 -- one rung, and then those below it
-pub rungs-more : (n : ℕ) (l : List Float) (w : Float) → 1 < n
+pub rungs_more : (n : ℕ) (l : List Float) (w : Float) → 1 < n
     → rungs_of (set (set l (2 * (n - 1)) (scale_of w)) (2 * (n - 1) + 1) (weight_of w)) (n - 1) (weight_of w) ≡ rungs_of l n w
 unfolding rungs_of
-rungs-more zero l w h = absurd (omega arith)
-rungs-more (suc zero) l w h = absurd (omega arith)
-rungs-more (suc (suc n)) l w h = rw sub-one refl
+rungs_more zero l w h = absurd (omega arith)
+rungs_more (suc zero) l w h = absurd (omega arith)
+rungs_more (suc (suc n)) l w h = rw sub-one refl
 
 pub rungs_last : (n : ℕ) (l : List Float) (w : Float) → n ≡ 1 → set l 0 (scale_of w) ≡ rungs_of l n w
 unfolding rungs_of
 rungs_last n l w h = rw h refl
-
-pub rungs-none : (n : ℕ) (l : List Float) (w : Float) → n ≡ 0 → l ≡ rungs_of l n w
-unfolding rungs_of
-rungs-none n l w h = rw h refl
 
 two_set : (l : List Float) (i k : ℕ) (a b : Float) → i + 2 ≤ k → get_or (set (set l i a) (i + 1) b) k nan ≡ get_or l k nan
 two_set l i k a b h = get_or-set_other (set l i a) (i + 1) k b nan (λ e. omega (arith, e)) ∙ get_or-set_other l i k a nan (λ e. omega (arith, e))
@@ -98,3 +95,11 @@ pub halved_plain : (n : ℕ) (l : List Float) (c : Conic) (d : Depth) (k : Lines
     → k ≡ plain_lines d.scale c → whole_middle k ≡ true → settled_lines c k ≡ true → h ≡ halves_at d.weight c k → Halved (n - 1) l c h
 halved_plain n l c d k h p r ed ek w s eh =
     halved n l c h p r (eh ∙ plain_is_the_chop d c k ek w s ∙ ap (λ (e : Depth). chop_at e c) ed)
+
+-- a ladder with nothing on it, and with the rungs of a level
+abbrev pub empty : List Float
+empty = replicate (2 * deepest) zero32
+
+pub climbed : (n : ℕ) (w : Float) (l : List Float) → n ≤ deepest → l ≡ rungs_of empty n w → Rungs l n w
+climbed n w l h e =
+    subst⁻¹ (λ (k : List Float). Rungs k n w) e (rungs_hold n empty w (omega (arith, h, length-replicate (2 * deepest) zero32)))

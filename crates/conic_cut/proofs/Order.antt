@@ -2,7 +2,7 @@
 -- and every level. Assumes nothing.
 use mathlib.Core.Path.{◌≡◌, refl, ap, ◌∙◌, subst, subst⁻¹}
 use mathlib.Core.Logic.{inl, inr, ⊎_elim}
-use mathlib.Core.Bool.{Bool, true, false, cond}
+use mathlib.Core.Bool.{Bool, true, false, cond, ◌&&◌}
 use mathlib.Core.List.{List, [], ◌∷◌, ◌++◌}
 use Prim.Native.Nat.{ℕ, zero, suc, ◌-◌, ◌*◌, ◌^◌}
 use lib.Dec.{T}
@@ -19,7 +19,7 @@ use Rattle.conic.specs.Rule.{Axis, X, Y}
 use Rattle.conic.proofs.Ways.{Way, Runs, up_way, down_way, PutsInOrder, halves_run, halves_ordered}
 use Rattle.conic_cut.specs.Cut.{cut_points, all_finite, plain, pinned, written}
 use Rattle.conic_cut.specs.Order.{Steps, OneWay, FiniteCoordinates, AllFiniteCoordinates, first_of, last_of, Premise, InOrder}
-use Rattle.conic_cut.proofs.Stores.{KeepsEnd, inner, cut_split}
+use Rattle.conic_cut.proofs.Stores.{KeepsEnd, inner, cut_split, ends_pinned}
 
 -- ---- a step whose halves start and end where the conic does, and meet
 pub record Joined (f : Conic → Halves) : Type 0 where
@@ -30,6 +30,9 @@ pub record Joined (f : Conic → Halves) : Type 0 where
 pub joined : Joined chop_by_rule
 unfolding chop_by_rule chop_at halves_at
 joined = record { start = λ c. refl; joint = λ c. refl; end = λ c. refl }
+
+pub cut_ends_pinned : (n : ℕ) (c : Conic) → (point_finite c.p0 && point_finite c.p2) ≡ false → pinned n c ≡ written chop_by_rule n c
+cut_ends_pinned n c h = ends_pinned chop_by_rule joined.end n c h
 
 -- ---- lists of points
 last_is : (s p : Point) (l : List Point) → last_of s (l ++ (p ∷ [])) ≡ p

@@ -2,7 +2,7 @@
 use mathlib.Core.Path.{◌≡◌, refl, sym, ap, ◌∙◌}
 use mathlib.Core.Bool.{Bool, true, false, cond, ◌&&◌, and-true, and_assoc}
 use mathlib.Core.List.{List, [], ◌∷◌, ◌++◌, append_assoc}
-use Prim.Native.Nat.{ℕ, zero, suc, ◌+◌, ◌-◌, ◌*◌, ◌^◌, ◌≤◌, ◌<◌}
+use Prim.Native.Nat.{ℕ, zero, suc, ◌+◌, ◌-◌, ◌*◌, ◌/◌, ◌^◌, ◌≤◌, ◌<◌}
 use native.Mathlib.Nat.{two-pow-succ}
 use native.Mathlib.Numerals.{sub-one}
 use native.Mathlib.Omega.{arith}
@@ -19,9 +19,6 @@ use Rattle.conic_cut.specs.Cut.{cut_points, half_points, all_finite, plain, pinn
 use Rattle.conic_cut.proofs.Lists.{sets_then, sets-again, sets-take}
 
 -- ---- powers and lengths
-pub pow_zero : (n : ℕ) → n ≡ 0 → 2 ^ n ≡ 1
-pow_zero n h = rw h
-
 pub pow_more : (n : ℕ) → (n ≡ 0 → ⊥) → 2 ^ n ≡ 2 ^ (n - 1) + 2 ^ (n - 1)
 pow_more zero h = absurd (h refl)
 pow_more (suc n) h = rw (sub-one, two-pow-succ) (omega arith)
@@ -135,15 +132,22 @@ unfolding flat
 pin_done p n i next l h = let e : n - i ≡ 0 = omega arith in rw e
 
 -- ---- the finite test over the numbers from i on
-pub all_more : (s : List Float) (i : ℕ) → i + 1 < length s
+more_finite : (s : List Float) (i : ℕ) → i + 1 < length s
     → all_finite (points_of (drop i s)) ≡ (point_finite (point_at s i) && all_finite (points_of (drop (i + 2) s)))
 unfolding all_finite points_of
-all_more s i h =
+more_finite s i h =
     let a : i < length s = omega arith in
     let b : suc i < length s = omega arith in
     let c : i + 1 ≡ suc i = omega arith in
     let d : i + 2 ≡ suc (suc i) = omega arith in
     rw (c, d, drop-cons s i nan a, drop-cons s (suc i) nan b)
+
+-- a is what was found of the points before the one at the place i
+pub all_more : (a b : Bool) (s : List Float) (i : ℕ) → i < length s / 2 → b ≡ point_finite (point_at s (2 * i))
+    → (a && all_finite (points_of (drop (2 * i) s))) ≡ ((a && b) && all_finite (points_of (drop (2 * (i + 1)) s)))
+all_more a b s i h e =
+    let next : 2 * i + 2 ≡ 2 * (i + 1) = omega arith in
+    rw (more_finite s (2 * i) (omega arith), ← e, next) (sym (and_assoc a b (all_finite (points_of (drop (2 * (i + 1)) s)))))
 
 short : (l : List Float) → length l ≤ 1 → all_finite (points_of l) ≡ true
 unfolding all_finite points_of
@@ -151,8 +155,8 @@ short [] h = refl
 short (x ∷ []) h = refl
 short (x ∷ y ∷ l) h = absurd (omega arith)
 
-pub all_end : (s : List Float) (i : ℕ) → length s ≤ i + 1 → all_finite (points_of (drop i s)) ≡ true
-all_end s i h = short (drop i s) (simp length-drop (omega arith))
+pub all_end : (a : Bool) (s : List Float) (i : ℕ) → length s / 2 ≤ i → (a && all_finite (points_of (drop (2 * i) s))) ≡ a
+all_end a s i h = rw (short (drop (2 * i) s) (simp length-drop (omega arith))) (and-true a)
 
 -- ---- the points between the first and the last
 unfoldable pub inner : (Conic → Halves) → ℕ → Conic → List Point

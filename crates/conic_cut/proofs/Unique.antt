@@ -4,14 +4,15 @@ use mathlib.Core.Bool.{Bool}
 use mathlib.Core.List.{List}
 use Prim.Native.Nat.{ℕ}
 use lib.Ieee.{Float}
+use Rattle.std.specs.Prelude.{Result}
 use Rattle.conic.specs.declared.Conic.{Conic}
 use Rattle.conic.specs.declared.Halves.{Halves}
+use Rattle.conic.specs.declared.Refusal.{Refusal}
 use Rattle.conic_cut.specs.declared.AutoConicToQuads.{AutoConicToQuads}
-use Rattle.conic_cut.specs.declared.Cut.{Cut}
 use Rattle.conic_cut.specs.Auto.{Computed}
 use Rattle.conic_cut.specs.Cut.{CutInto}
 
-pub one_cut : (f : Conic → Halves) (n : ℕ) (c : Conic) (short : Bool) (l : List Float) (r s : Cut) (l₁ l₂ : List Float)
+pub one_cut : (f : Conic → Halves) (n : ℕ) (c : Conic) (short : Bool) (l : List Float) (r s : Result ℕ Refusal) (l₁ l₂ : List Float)
     → CutInto f n c short l r l₁ → CutInto f n c short l s l₂ → (r ≡ s) × (l₁ ≡ l₂)
 one_cut f n c short l r s l₁ l₂ p q = (p.answer ∙ sym q.answer, p.buffer ∙ sym q.buffer)
 

@@ -1,5 +1,6 @@
 -- What a cut writes: the points, by recursion on the level over any step, and the numbers in the lent buffer. Definitions only.
-use Rattle.std.specs.Prelude.{ℕ, zero, suc, ◌+◌, ◌-◌, ◌*◌, ◌^◌, ◌≡◌, Bool, true, cond, ◌&&◌, ◌||◌, List, [], ◌∷◌, ◌++◌, ltb, length, drop, replicate, Float}
+use Rattle.std.specs.Prelude.{ℕ, zero, suc, ◌+◌, ◌-◌, ◌*◌, ◌^◌, ◌≡◌, Bool, true, cond, ◌&&◌, ◌||◌, List, [], ◌∷◌, ◌++◌, ltb, length, drop, replicate, Result, Ok, Err, Float}
+use Rattle.answers.specs.Answers.{number_of, values_of}
 use Rattle.point.specs.declared.Point.{Point}
 use Rattle.point.specs.Numbers.{flat}
 use Rattle.point.specs.Point.{point_finite}
@@ -9,8 +10,6 @@ use Rattle.conic.specs.declared.Refusal.{Refusal}
 use Rattle.conic.specs.declared.Refusal.TheVariants.{LevelTooHigh, BufferTooShort}
 use Rattle.conic.specs.Level.{ceiling}
 use Rattle.conic.specs.Refusal.{number_of_refusal, values_of_refusal}
-use Rattle.conic_cut.specs.declared.Cut.{Cut}
-use Rattle.conic_cut.specs.declared.Cut.TheVariants.{Quads, Refused}
 
 -- ---- the points
 -- of a cut by the step f, but for the first
@@ -47,23 +46,21 @@ refuse_cut n len short refused well =
     cond (ltb ceiling n) (refused LevelTooHigh)
     (cond (ltb len (room n) || short) (refused BufferTooShort) well)
 
-unfoldable pub cut_answer : ℕ → ℕ → Bool → Cut
-cut_answer n len short = refuse_cut n len short Refused (Quads (2 ^ n))
+unfoldable pub cut_answer : ℕ → ℕ → Bool → Result ℕ Refusal
+cut_answer n len short = refuse_cut n len short Err (Ok (2 ^ n))
 
 unfoldable pub cut_buffer : (Conic → Halves) → ℕ → Conic → Bool → List Float → List Float
 cut_buffer f n c short l = refuse_cut n (length l) short (λ _. l) (flat (written f n c) ++ drop (room n) l)
 
 -- the number of an answer in docs/RULES.md, "Answer numbers", and its values: how many quads
-abbrev pub number_of_cut : Cut → ℕ
-number_of_cut (Quads q) = 0
-number_of_cut (Refused r) = number_of_refusal r
+abbrev pub number_of_cut : Result ℕ Refusal → ℕ
+number_of_cut r = number_of number_of_refusal r
 
-abbrev pub values_of_cut : Cut → List ℕ
-values_of_cut (Quads q) = q ∷ []
-values_of_cut (Refused r) = values_of_refusal r
+abbrev pub values_of_cut : Result ℕ Refusal → List ℕ
+values_of_cut r = values_of r
 
 -- the answer, its number and its values, and the buffer at exit; two that meet it are one (`one_cut` of proofs/Unique)
-pub record CutInto (f : Conic → Halves) (n : ℕ) (c : Conic) (short : Bool) (l : List Float) (r : Cut) (l₁ : List Float) : Type 0 where
+pub record CutInto (f : Conic → Halves) (n : ℕ) (c : Conic) (short : Bool) (l : List Float) (r : Result ℕ Refusal) (l₁ : List Float) : Type 0 where
   pub answer : r ≡ cut_answer n (length l) short
   pub number : number_of_cut r ≡ refuse_cut n (length l) short number_of_refusal 0
   pub values : values_of_cut r ≡ refuse_cut n (length l) short values_of_refusal (2 ^ n ∷ [])

@@ -19,23 +19,23 @@ pub fn quads(level: u32) -> usize
 }
 
 // Whether each point of s, two numbers a point, passes the crate's finite test.
+#[tactic(auto, using(crate::proofs::Stores::all_more, crate::proofs::Stores::all_end))]
 fn all_finite(s: &[f32]) -> bool
     ensures { result ≡ all_finite (points_of s.now) }
 {
     let mut ok = true;
-    let mut i = 0;
-    while i + 1 < s.len() {
+    for i in 0..s.len() / 2 {
         let p = Point {
-            x: s[i],
-            y: s[i + 1],
+            x: s[2 * i],
+            y: s[2 * i + 1],
         };
         ok = ok & p.is_finite();
-        i += 2;
     }
     ok
 }
 
 // Stores all the points of the cut. Where one is not finite, all but the first and the last become c's middle point.
+#[tactic(auto, using(crate::proofs::Stores::stored_fine, crate::proofs::Stores::stored_pinned))]
 fn store_cut(out: &mut [f32], c: Conic, level: u32)
     requires room { 2 + 4 * 2 ^ level ≤ length out.old }
     requires depth { level ≤ deepest }
@@ -50,6 +50,7 @@ fn store_cut(out: &mut [f32], c: Conic, level: u32)
 }
 
 // Stores c's ends, with its middle point in every place between them.
+#[tactic(auto, using(crate::proofs::Stores::stored_pins))]
 fn store_pinned(out: &mut [f32], c: Conic, level: u32)
     requires room { 2 + 4 * 2 ^ level ≤ length out.old }
     requires depth { level ≤ deepest }
@@ -62,6 +63,7 @@ fn store_pinned(out: &mut [f32], c: Conic, level: u32)
 }
 
 // The same as `store_cut`. Where an end is not finite the points are pinned whatever the cut is, so it is not made.
+#[tactic(auto, using(crate::proofs::Order::cut_ends_pinned))]
 pub fn store(out: &mut [f32], c: Conic, level: u32)
     requires room { 2 + 4 * 2 ^ level ≤ length out.old }
     requires depth { level ≤ deepest }

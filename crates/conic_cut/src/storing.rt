@@ -1,4 +1,7 @@
 // Stores of points, two numbers a point. Carried over from `path_geometry.rs` of tiny-skia-path 0.12.0.
+// A buffer and a place go side by side, and no writer holds both: the clauses above these speak of `sets out.old at ..`.
+#![tactic(auto, using(crate::proofs::Lists::sets_then), unfolding(point::specs::Numbers::flat))]
+
 ghost use Rattle.std.specs.Prelude.{◌≡◌, [], ◌∷◌, ◌+◌, ◌*◌, ◌≤◌, length, replicate};
 ghost use Rattle.std.proofs.lemmas.List.Edits.{sets};
 ghost use Rattle.point.specs.Numbers.{flat};
@@ -18,7 +21,8 @@ pub fn put(out: &mut [f32], at: usize, p: Point) -> usize
     next + 1
 }
 
-// Stores the points of c, as a quad, but the first, and answers the next place.
+// Stores the points of c, as a quad, but the first, and answers the next place. Number by number: points that are copied whole
+// wait for the stores that they come from (docs/SPEED.md).
 pub fn put_quad(out: &mut [f32], at: usize, c: Conic) -> usize
     requires { at + 4 ≤ length out.old }
     ensures { (result ≡ at + 4) × (out.new ≡ sets out.old at (flat (c.p1 ∷ c.p2 ∷ []))) }
@@ -45,14 +49,13 @@ pub fn put_halves(out: &mut [f32], at: usize, h: Halves) -> usize
 }
 
 // Stores p, n times, from `at` on.
+#[tactic(auto, using(crate::proofs::Stores::pin_more, crate::proofs::Stores::pin_done))]
 pub fn pin(out: &mut [f32], at: usize, p: Point, n: usize)
     requires { at + 2 * n ≤ length out.old }
     ensures { out.new ≡ sets out.old at (flat (replicate n p)) }
 {
-    let mut i = 0;
     let mut next = at;
-    while i < n {
+    for _ in 0..n {
         next = put(out, next, p);
-        i += 1;
     }
 }

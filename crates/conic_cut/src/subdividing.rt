@@ -14,26 +14,23 @@ use point::Point;
 
 // The highest level of a cut, by which the ladder has its room. The proofs are by induction over the level.
 const DEEPEST: usize = Conic::MAX_CUT_LEVEL as usize;
-// Two numbers for each level.
+// Two numbers for each level. A ladder is no type of its own: what `Rungs` says of it is of the level and the weight of a call too.
 const RUNGS: usize = 2 * DEEPEST;
 
 // The rungs of a cut: a division and a root for each depth, and not for each chop. The halves of level 0 are stored and not
 // cut, so that no root is taken for their weight.
+#[tactic(auto, using(crate::proofs::Ladder::rungs_more, crate::proofs::Ladder::rungs_last))]
 fn ladder(rungs: &mut [f32; RUNGS], weight: f32, level: u32)
-    requires { level ≤ deepest }
+    requires { (1 ≤ level) × (level ≤ deepest) }
     ensures { rungs.new ≡ rungs_of rungs.old level weight }
 {
     let mut w = weight;
-    let mut n = level as usize;
-    while n > 1 {
-        n -= 1;
+    for n in (1..level as usize).rev() {
         rungs[2 * n] = Depth::scale_of(w);
         w = Conic::subdivide_weight_value(w);
         rungs[2 * n + 1] = w;
     }
-    if n > 0 {
-        rungs[0] = Depth::scale_of(w);
-    }
+    rungs[0] = Depth::scale_of(w);
 }
 
 // What the conics of a level share. At level 1 the ladder holds no weight: halves of level 0 are stored, not cut.
@@ -48,7 +45,8 @@ fn rung(rungs: &[f32; RUNGS], level: u32) -> Depth
 }
 
 // Stores all the points of the cut but the first from `at` on, and answers the next place. The conic comes in numbers: halves
-// that were corrected are put together from single numbers, and read back as a conic by value they wait for these stores.
+// that were corrected are put together from single numbers, and read back as a conic by value they wait for these stores
+// (docs/SPEED.md, "numbers for the part that corrects").
 fn subdivide_in_full(
     out: &mut [f32],
     at: usize,
@@ -156,7 +154,7 @@ fn subdivide(out: &mut [f32], at: usize, rungs: &[f32; RUNGS], c: Conic, level: 
 }
 
 // c itself, put together number by number. What is handed on by value stands in memory, and a read that spans several stores
-// waits for them.
+// waits for them (docs/SPEED.md, "the conic put together for the recursion").
 fn put_together(c: Conic) -> Conic
     ensures { result ≡ c }
 {
@@ -180,6 +178,7 @@ fn put_together(c: Conic) -> Conic
 }
 
 // Stores all the points of the cut but the first from `at` on, at any level, and answers the next place.
+#[tactic(auto, using(crate::proofs::Ladder::climbed))]
 pub fn cut(out: &mut [f32], at: usize, c: Conic, level: u32) -> usize
     requires room { at + 4 * 2 ^ level ≤ length out.old }
     requires depth { level ≤ deepest }

@@ -1,3 +1,4 @@
+-- The invariant of the loop of `quarterings`: the steps done and those left make the whole count. Assumes nothing.
 use mathlib.Core.Path.{◌≡◌}
 use Prim.Native.Nat.{◌+◌, ◌-◌}
 use Rattle.conic.specs.Level.{quarterings_of}

@@ -1,3 +1,4 @@
+-- `store_cut` meets its contract: the points as they are stored, or pinned over these. Assumes nothing.
 use Rattle.conic.specs.Chop.{chop_by_rule}
 use Rattle.conic_cut.proofs.Stores.{stored_fine, stored_pinned}
 use Rattle.conic_cut.proofs.cutting.store_cut.Goals as goal

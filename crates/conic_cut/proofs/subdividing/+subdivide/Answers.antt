@@ -1,9 +1,9 @@
 -- `subdivide` meets its contract: the level falls at each call of itself, a chop that needs a correction is cut in full, and `Stores` says
 -- what two cuts leave. Assumes nothing.
-use Prim.Native.Nat.{ℕ, ◌-◌, ◌^◌, ◌≤◌}
+use Prim.Native.Nat.{ℕ, ◌-◌, ◌≤◌}
 use mathlib.Core.List.{List}
-use mathlib.Core.Bool.{Bool, true}
-use mathlib.Core.Path.{◌≡◌, sym, ap, subst, ◌∙◌}
+use mathlib.Core.Bool.{true}
+use mathlib.Core.Path.{◌≡◌}
 use native.Mathlib.Omega.{arith}
 use lib.Ieee.{Float}
 use Rattle.conic.specs.declared.Conic.{Conic}
@@ -23,34 +23,32 @@ deeper : (n : ℕ) → 2 ≤ n → (n - 1 ≡ 1 → ⊥) → 2 ≤ n - 1
 deeper n h k = omega arith
 
 -- what the plain chop gave is cut further as the rule's own halves are
-halves_of : (n : ℕ) (l : List Float) (c : Conic) (d : Depth) (k : Lines) (h : Halves) (whole settled : Bool) → 2 ≤ n → Rungs l n c.weight →
-    d ≡ rung_at l n → k ≡ plain_lines d.scale c → whole ≡ whole_middle k → whole ≡ true → settled ≡ settled_lines c k → settled ≡ true →
-    h ≡ halves_at d.weight c k → Halved (n - 1) l c h
-halves_of n l c d k h whole settled two r ed ek w is s run eh =
-    halved_plain n l c d k h (omega arith) r ed ek (sym w ∙ is) (sym s ∙ run) eh
+step : (n : ℕ) (l : List Float) (c : Conic) (d : Depth) (k : Lines) (h : Halves) → 2 ≤ n → Rungs l n c.weight → d ≡ rung_at l n
+    → k ≡ plain_lines d.scale c → whole_middle k ≡ true → settled_lines c k ≡ true → h ≡ halves_at d.weight c k → Halved (n - 1) l c h
+step n l c d k h two r ed ek w s eh = halved_plain n l c d k h (omega arith) r ed ek w s eh
 
-pub put_last-requires : goal.put_last-requires
-put_last-requires t c =
+pub put_last-requires-clause-first_half : goal.put_last-requires-clause-first_half
+put_last-requires-clause-first_half t c =
     let a = c.args in
     let s = c.requires.1 in
     let h = c.halves-h.result in
-    let same = halves_of a.level a.rungs.now a.c c.rung-d.result c.plain_lines-l.result h c.is_whole.result c.is_settled.result s.0 s.1.1
-    c.rung-d.ensures c.plain_lines-l.ensures c.is_whole.ensures c.if-not-is_whole.false c.is_settled.ensures c.if-not-is_settled.false c.halves-h.ensures in
-    let one : a.level - 1 ≡ 1 = c.if-less-eq1.true in
-    let two : a.level ≡ 2 = omega (arith, one) in
-    record {
-      room = omega (arith, c.requires.0, ap (λ (n : ℕ). 2 ^ n) two);
-      first_half = subst (λ (n : ℕ). Rungs a.rungs.now n h.first.weight) one same.first_rungs;
-      second_half = subst (λ (n : ℕ). Rungs a.rungs.now n h.second.weight) one same.second_rungs;
-    }
+    let same = step a.level a.rungs.now a.c _ _ h s.0 s.1.1 c.rung-d.ensures c.plain_lines-l.ensures (cc) (cc) c.halves-h.ensures in
+    rw (c.if-less-eq1.true) at same.first_rungs
+
+pub put_last-requires-clause-second_half : goal.put_last-requires-clause-second_half
+put_last-requires-clause-second_half t c =
+    let a = c.args in
+    let s = c.requires.1 in
+    let h = c.halves-h.result in
+    let same = step a.level a.rungs.now a.c _ _ h s.0 s.1.1 c.rung-d.ensures c.plain_lines-l.ensures (cc) (cc) c.halves-h.ensures in
+    rw (c.if-less-eq1.true) at same.second_rungs
 
 pub returns-then-less-eq1 : goal.returns-then-less-eq1
 returns-then-less-eq1 t c =
     let a = c.args in
     let s = c.requires.1 in
     let h = c.halves-h.result in
-    let same = halves_of a.level a.rungs.now a.c c.rung-d.result c.plain_lines-l.result h c.is_whole.result c.is_settled.result s.0 s.1.1
-    c.rung-d.ensures c.plain_lines-l.ensures c.is_whole.ensures c.if-not-is_whole.false c.is_settled.ensures c.if-not-is_settled.false c.halves-h.ensures in
+    let same = step a.level a.rungs.now a.c _ _ h s.0 s.1.1 c.rung-d.ensures c.plain_lines-l.ensures (cc) (cc) c.halves-h.ensures in
     let last = c.put_last in
     stored_joined chop_by_rule a.level a.c h.first h.second a.out.now last.new.out a.at last.result
     (some a.level s.0) same.first same.second (rw c.if-less-eq1.true last.ensures)
@@ -60,8 +58,7 @@ subdivide-next-requires t c =
     let a = c.args in
     let s = c.requires.1 in
     let h = c.halves-h.result in
-    let same = halves_of a.level a.rungs.now a.c c.rung-d.result c.plain_lines-l.result h c.is_whole.result c.is_settled.result s.0 s.1.1
-    c.rung-d.ensures c.plain_lines-l.ensures c.is_whole.ensures c.if-not-is_whole.false c.is_settled.ensures c.if-not-is_settled.false c.halves-h.ensures in (
+    let same = step a.level a.rungs.now a.c _ _ h s.0 s.1.1 c.rung-d.ensures c.plain_lines-l.ensures (cc) (cc) c.halves-h.ensures in (
       omega (arith, c.decreases, s.0),
       (
         omega (arith, c.requires.0, pow_more a.level (some a.level s.0)),
@@ -74,8 +71,7 @@ subdivide-requires t c =
     let a = c.args in
     let s = c.requires.1 in
     let h = c.halves-h.result in
-    let same = halves_of a.level a.rungs.now a.c c.rung-d.result c.plain_lines-l.result h c.is_whole.result c.is_settled.result s.0 s.1.1
-    c.rung-d.ensures c.plain_lines-l.ensures c.is_whole.ensures c.if-not-is_whole.false c.is_settled.ensures c.if-not-is_settled.false c.halves-h.ensures in
+    let same = step a.level a.rungs.now a.c _ _ h s.0 s.1.1 c.rung-d.ensures c.plain_lines-l.ensures (cc) (cc) c.halves-h.ensures in
     let first = c.subdivide-next in (
       omega (arith, c.decreases, s.0),
       (
@@ -89,8 +85,7 @@ returns t c =
     let a = c.args in
     let s = c.requires.1 in
     let h = c.halves-h.result in
-    let same = halves_of a.level a.rungs.now a.c c.rung-d.result c.plain_lines-l.result h c.is_whole.result c.is_settled.result s.0 s.1.1
-    c.rung-d.ensures c.plain_lines-l.ensures c.is_whole.ensures c.if-not-is_whole.false c.is_settled.ensures c.if-not-is_settled.false c.halves-h.ensures in
+    let same = step a.level a.rungs.now a.c _ _ h s.0 s.1.1 c.rung-d.ensures c.plain_lines-l.ensures (cc) (cc) c.halves-h.ensures in
     let first = c.subdivide-next in
     let second = c.subdivide in
     stored_more chop_by_rule a.level a.c h.first h.second a.out.now first.new.out second.new.out

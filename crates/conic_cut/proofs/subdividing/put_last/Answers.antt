@@ -13,15 +13,6 @@ four true true false s h = absurd (true≢false (sym h))
 four true false r s h = absurd (true≢false (sym h))
 four false q r s h = absurd (true≢false (sym h))
 
-pub put_halves-next-requires : goal.put_halves-next-requires
-put_halves-next-requires c =
-    omega (arith, c.requires.room)
-
-pub put_halves-requires : goal.put_halves-requires
-put_halves-requires c =
-    let first = c.put_halves-next in
-    omega (arith, c.requires.room, first.ensures.0, first.auto.out)
-
 pub returns-then-whole-is_settled : goal.returns-then-whole-is_settled
 returns-then-whole-is_settled c =
     let a = c.args in
