@@ -2,7 +2,7 @@
 -- what q * 2 ^ x / 2 ^ 149 comes to by x.
 -- Assumes nothing.
 use mathlib.Core.Path.{◌≡◌, refl, sym, ap, ◌∙◌}
-use mathlib.Core.Bool.{Bool}
+use mathlib.Core.Bool.{Bool, true}
 use Prim.Native.Nat.{ℕ, zero, suc, ◌+◌, ◌-◌, ◌*◌, ◌/◌, ◌^◌, ◌≤◌, ◌<◌, min}
 use native.Mathlib.Nat.{mul_comm, mul_assoc, mul-one, mul-div-mul_right, mul-le-mul, div-eq_of_lt, lt_of_lt_of_le}
 use native.Mathlib.Nat.{min-eq_right, sub-add_cancel, add_comm}
@@ -10,7 +10,7 @@ use native.Mathlib.Omega.{arith}
 use borrow.Author.Tests.{ne_eqb}
 use lib.Dec.{lit<}
 use lib.Pow.{pow-add, pow_pos, pow_mono, shl_lt}
-use lib.Ieee.{Float, nan, inf, fin, binary32, up, down, odd, of_fields}
+use lib.Ieee.{Float, nan, inf, fin, binary32, up, down, odd, of_fields, is_nan}
 use lib.Ieee.Exact.{HasValue, odd_sign}
 use lib.Ieee.Fits.{down_pos}
 use Rattle.bridge_text.specs.Thousandths.{nearest_up, held_of, thousandths_of}
@@ -25,8 +25,14 @@ cross n d a c h = omega arith
 same-nearest : (a c b d : ℕ) → 0 < c → 0 < d → a * d ≡ b * c → nearest_up (1000 * a) c ≡ nearest_up (1000 * b) d
 same-nearest a c b d p q e = same_quotient (2 * (1000 * a) + c) (2 * c) (2 * (1000 * b) + d) (2 * d) (omega arith) (omega arith) (cross a c b d e)
 
+pub of_nan : (x : Float) → is_nan x ≡ true → 1000000000000 ≡ thousandths_of x
+unfolding thousandths_of is_nan
+of_nan nan e = refl
+of_nan (inf t) e = cc
+of_nan (fin t m k) e = cc
+
 pub of_value : (x : Float) (s : Bool) (a c : ℕ) → 0 < c → HasValue x s a c → thousandths_of x ≡ held_of a c
-unfolding thousandths_of
+unfolding thousandths_of is_nan
 of_value nan s a c p v = absurd v
 of_value (inf t) s a c p v = absurd v
 of_value (fin t m e) s a c p v = ap (λ (y : ℕ). min y 1000000000000) (same-nearest (m * up e) (down e) a c (down_pos e) p v.1)

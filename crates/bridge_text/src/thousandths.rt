@@ -5,19 +5,13 @@ ghost use Rattle.bridge_text.specs.Thousandths.{nearest_up, held_of, thousandths
 // Where a size is held: a number of so many thousandths is not written.
 const MOST: u64 = 1000000000000;
 
-fn held(n: u64) -> u64
-    ensures { result ≡ min n 1000000000000 }
-{
-    if n < MOST { n } else { MOST }
-}
-
 // q * 2^j in thousandths.
 fn whole(q: u64, j: u64) -> u64
     requires significand { q < 2 ^ 24 }
     requires shift { j < 16 }
     ensures { result ≡ min (1000 * (q * 2 ^ j)) 1000000000000 }
 {
-    held(1000 * (q << j))
+    (1000 * (q << j)).min(MOST)
 }
 
 // q / 2^k in thousandths, half of one counted up.
@@ -45,14 +39,14 @@ fn scaled(q: u64, x: u64) -> u64
     if x < 109 {
         return 0;
     }
-    held(part(q, 149 - x))
+    part(q, 149 - x).min(MOST)
 }
 
 // The size of v in thousandths: the nearest whole number of them, and the larger where two are as near.
 pub fn thousandths(v: f32) -> u64
     ensures { result ≡ thousandths_of v }
 {
-    if v != v {
+    if v.is_nan() {
         return MOST;
     }
     let b = f32::to_bits(v) as u64;

@@ -99,6 +99,7 @@ pub enum Found {
 }
 
 impl Record {
+    // The numbers of include/nyerdzumak.h, to which tools/header holds these.
     pub const KIND_CONIC: u32 = 1;
 
     pub const KIND_TRANSFORM: u32 = 2;
@@ -190,7 +191,7 @@ pub fn write(journal: &mut [u8], at: usize, r: Record) -> Result<usize, Refusal>
 }
 
 // Writes the record of a kind with the first seven, six or one of these words, where there is such a kind and it fits; and the
-// offset behind it.
+// offset behind it. C gives the kind as a number.
 pub fn write_words(
     journal: &mut [u8],
     at: usize,

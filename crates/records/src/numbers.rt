@@ -1,4 +1,5 @@
-// Numbers of two and four bytes, the low byte first.
+// Numbers of two and four bytes, the low byte first: each call a line of its own size, since no trait of the library has
+// `from_le_bytes` for both.
 ghost use Rattle.std.specs.Prelude.{◌≡◌, ◌+◌, ◌*◌, ◌≤◌, length};
 ghost use Rattle.std.proofs.lemmas.List.Edits.{sets};
 ghost use Rattle.records.specs.Numbers.{two, four, half, word, words_at};

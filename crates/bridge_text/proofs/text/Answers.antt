@@ -1,3 +1,4 @@
+-- `text` meets its contract: it goes by whether the size has columns. Assumes nothing.
 use mathlib.Core.Path.{◌∙◌}
 use borrow.Author.Tests.{lt-ltb, le-ltb}
 use Rattle.bridge_text.specs.Text.{text_of}

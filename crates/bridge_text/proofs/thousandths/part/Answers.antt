@@ -1,3 +1,4 @@
+-- `thousandths::part` meets its contract: 2 to the number of places is at most 2^40, so that nothing overflows. Assumes nothing.
 use native.Mathlib.Omega.{arith}
 use mathlib.Core.Path.{◌≡◌}
 use Prim.Native.Nat.{◌*◌, ◌%◌, ◌^◌}

