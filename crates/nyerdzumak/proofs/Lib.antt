@@ -1,1 +1,2 @@
+pub mod Autos
 pub mod Later

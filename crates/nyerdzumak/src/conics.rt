@@ -136,8 +136,9 @@ fn auto(src: &[f32], weight: f32, out: &mut [f32; 128]) -> Result<usize, Refusal
 {
     let c = Conic::from_points(src, weight, Rule::Product)?;
     let cut = AutoConicToQuads::compute(c.p0, c.p1, c.p2, c.weight);
+    let points = cut.points;
     let quads = cut.answer?;
-    *out = cut.points;
+    *out = points;
     Ok(quads)
 }
 
