@@ -8,9 +8,9 @@ use native.Mathlib.Nat.{le_trans, le_of_eq, zero-add, mul_assoc, mul-pos, mul-le
 use native.Mathlib.Omega.{arith}
 use lib.Dec.{T, leb, leb→le, nleb→lt, lit<}
 use lib.Pow.{pow-add, pow_pos}
-use lib.Ieee.{Format, binary32, binary64, prec, low, hid, ones, size, of_bits}
+use lib.Ieee.{Format, binary32, binary64, prec, low, hid, ones, size, nan_bits, of_bits}
 use Rattle.float_laws.specs.Root.{whole_root}
-use Rattle.float_laws.proofs.Patterns.{packs, twice_hid}
+use Rattle.float_laws.proofs.Patterns.{packs, plain_small, twice_hid}
 use Rattle.float_laws.proofs.Rounding.{parity}
 use Rattle.float_laws.proofs.RootFunction.{IsRoot, Up, root_is, root_at_is, root_of_is}
 use Rattle.float_ground.specs.Parts.{wide, zeros, RootBy}
@@ -120,3 +120,14 @@ module _ (f : Format) (g t : ℕ) (even : t % 2 ≡ 0) (room : g / 2 + 2 ≤ one
     where
       some : 0 < m
       some = omega (arith, pow_pos (wide f))
+
+-- ---- what a root's pattern is, put together from half of g and the whole number r
+
+pub record Rooted (f : Format) (g t r : ℕ) : Type 0 where
+  pub room : g / 2 * hid f + r ≤ ones f * hid f
+  pub no_nan : T (not (nan_bits f (g / 2 * hid f + r)))
+  pub is : RootBy f g t (of_bits f (g / 2 * hid f + r))
+
+pub root_by : (f : Format) (g t r : ℕ) → r ≡ nearest_root (radicand (wide f) g t * 2 ^ zeros f) → t % 2 ≡ 0 → g / 2 + 2 ≤ ones f → Rooted f g t r
+root_by f g t r e even room =
+    rw e (record { room = most f g t even room; no_nan = plain_small f _ (most f g t even room); is = rooted f g t even room })

@@ -1,18 +1,19 @@
 -- A number brought to the form in which its root is taken, over the format: its leading digit at 2 ^ wide. Assumes nothing.
 use mathlib.Core.Path.{◌≡◌, sym, ap, ◌∙◌}
 use mathlib.Core.Bool.{false}
-use Prim.Native.Nat.{ℕ, ◌+◌, ◌-◌, ◌*◌, ◌/◌, ◌%◌, ◌^◌, ◌≤◌, ◌<◌}
-use native.Mathlib.Nat.{le_of_eq, mul_assoc, add-mod_left, mod-eq_of_lt, div-eq_of_lt}
+use Prim.Native.Nat.{ℕ, suc, ◌+◌, ◌-◌, ◌*◌, ◌/◌, ◌%◌, ◌^◌, ◌≤◌, ◌<◌}
+use native.Mathlib.Nat.{le_refl, lt_of_lt_of_le, pow-succ', le_of_eq, mul_assoc, add-mod_left, mod-eq_of_lt, div-eq_of_lt}
 use native.Mathlib.Omega.{arith}
-use lib.Dec.{leb}
+use lib.Dec.{leb, lit≤}
+use lib.Count.{count_leading_zeros}
 use lib.Arith.{lt→nleb}
-use lib.Pow.{pow-add, pow_pos}
+use lib.Pow.{pow-add, pow_pos, pow_mono}
 use lib.Ieee.{Float, Format, binary32, binary64, low, hid, ones, top, of_bits}
 use lib.Ieee.Bits.{is_false}
 use lib.Ieee.Exact.{HasValue}
 use Rattle.float_laws.proofs.Values.{same_value}
 use Rattle.float_ground.specs.Parts.{wide, zeros}
-use Rattle.float_ground.proofs.Apart.{fields_high, fields_low}
+use Rattle.float_ground.proofs.Apart.{Shift, shift, fields_high, fields_low}
 
 -- a number whose leading digit stands at p
 pub leading : (v p : ℕ) → p ≤ v → v < p + p → v % p + p ≡ v
@@ -73,3 +74,50 @@ subnormal_value f b hi =
     below : (f : Format) → b < hid f → b < ones f * hid f
     below binary32 h = omega arith
     below binary64 h = omega arith
+
+-- ---- a subnormal number b that is shifted by z, its leading zeros in w places but d
+
+pub record Brought (f : Format) (w d b z : ℕ) : Type 0 where
+  pub some : d < count_leading_zeros w b
+  pub few : count_leading_zeros w b < w
+  pub even : b * 2 ^ z % 2 ^ w % 2 ≡ 0
+  pub value : HasValue (of_bits f b) false ((b * 2 ^ z % 2 ^ w % 2 ^ wide f + 2 ^ wide f) * 2 ^ (low f + 1 - zeros f - z)) (2 ^ (low f + low f + 1 - zeros f))
+
+pub subnormal_by : (f : Format) (w d b z : ℕ) → suc (wide f + d) ≡ w → z ≡ count_leading_zeros w b - d → 0 < b → b < hid f → Brought f w d b z
+subnormal_by f w d b z W Z some hi =
+    record {
+      some = S.some;
+      few = S.few;
+      even = ap (λ (y : ℕ). y % 2) whole ∙ last f (S.clear (wide f) (le_refl (wide f)) small);
+      value = value_by f (of_bits f b) b 0 z (low f + 1 - zeros f - z) (b * 2 ^ z % 2 ^ w) (subnormal_value f b hi) digits (sum f short);
+    }
+  where
+    small : b < 2 ^ wide f
+    small = lt_of_lt_of_le hi (below f)
+      where
+        below : (f : Format) → hid f ≤ 2 ^ wide f
+        below binary32 = lit≤ tt
+        below binary64 = lit≤ tt
+
+    S : Shift w d (wide f) b z
+    S = shift w d (wide f) b z W some small Z
+
+    short : z ≤ wide f
+    short = omega (arith, S.few)
+
+    whole : b * 2 ^ z % 2 ^ w ≡ b * 2 ^ z
+    whole = let wider : suc (wide f) ≤ w = omega arith in mod-eq_of_lt (lt_of_lt_of_le S.under (pow_mono wider))
+
+    digits : b * 2 ^ z % 2 ^ w % 2 ^ wide f + 2 ^ wide f ≡ b * 2 ^ z
+    digits = ap (λ (y : ℕ). y % 2 ^ wide f + 2 ^ wide f) whole ∙ leading (b * 2 ^ z) (2 ^ wide f) S.at_least (twice S.under)
+      where
+        twice : b * 2 ^ z < 2 ^ suc (wide f) → b * 2 ^ z < 2 ^ wide f + 2 ^ wide f
+        twice h = let two : 2 ^ suc (wide f) ≡ 2 * 2 ^ wide f = pow-succ' 2 (wide f) in omega arith
+
+    last : (f : Format) → b * 2 ^ z % 2 ^ (suc (wide f) - wide f) ≡ 0 → b * 2 ^ z % 2 ≡ 0
+    last binary32 h = h
+    last binary64 h = h
+
+    sum : (f : Format) → z ≤ wide f → 0 + (low f + low f + 1 - zeros f) ≡ z + (low f + 1 - zeros f - z) + low f
+    sum binary32 h = omega arith
+    sum binary64 h = omega arith

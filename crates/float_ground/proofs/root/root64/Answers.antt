@@ -1,36 +1,18 @@
 -- `float_ground::root::root64` meets its contract, by the law of `Rooting`. Assumes nothing.
-use mathlib.Core.Path.{sym, subst}
-use Prim.Native.Nat.{ℕ, ◌+◌, ◌*◌, ◌/◌, ◌≤◌}
 use native.Mathlib.Omega.{arith}
-use lib.Ieee.{binary64, hid, ones, of_bits}
-use Rattle.float_laws.proofs.Patterns.{plain_small}
-use Rattle.float_ground.specs.Parts.{RootBy}
-use Rattle.float_ground.proofs.Rooting.{most, rooted}
+use lib.Ieee.{binary64}
+use Rattle.float_ground.proofs.Rooting.{Rooted, root_by}
 use Rattle.float_ground.proofs.root.root64.Goals as goal
 use Rattle.float_ground.proofs.root.root64.Goals.{After-root53}
 
-module _ (c : After-root53) where
-  abbrev g : ℕ
-  g = c.args.g
-
-  abbrev t : ℕ
-  t = c.args.t
-
-  room : g / 2 + 2 ≤ ones binary64
-  room = omega (arith, c.requires.exponent)
-
-  pattern-le : g / 2 * hid binary64 + c.root53.result ≤ ones binary64 * hid binary64
-  pattern-le =
-      subst (λ (r : ℕ). g / 2 * hid binary64 + r ≤ ones binary64 * hid binary64) (sym c.root53.ensures)
-      (most binary64 g t c.requires.even room)
+by : (c : After-root53) → Rooted binary64 c.args.g c.args.t c.root53.result
+by c = root_by binary64 c.args.g c.args.t c.root53.result c.root53.ensures c.requires.even (omega (arith, c.requires.exponent))
 
 pub overflow_add-result : goal.overflow_add-result
-overflow_add-result c = record { fits = omega (arith, pattern-le c) }
+overflow_add-result c = record { fits = omega (arith, (by c).room) }
 
 pub float_from_bits-result : goal.float_from_bits-result
-float_from_bits-result c = plain_small binary64 (g c / 2 * hid binary64 + c.root53.result) (pattern-le c)
+float_from_bits-result c = (by c).no_nan
 
 pub returns : goal.returns
-returns c =
-    subst (λ (r : ℕ). RootBy binary64 (g c) (t c) (of_bits binary64 (g c / 2 * hid binary64 + r))) (sym c.root53.ensures)
-    (rooted binary64 (g c) (t c) c.requires.even (room c))
+returns c = (by c).is

@@ -1,54 +1,30 @@
 -- `float_ground::root::subnormal64` meets its contract: the leading zeros give the shift. Assumes nothing.
-use mathlib.Core.Path.{◌≡◌, refl, ap, ◌∙◌}
-use Prim.Native.Nat.{ℕ, ◌+◌, ◌-◌, ◌*◌, ◌%◌, ◌^◌, ◌<◌}
-use native.Mathlib.Nat.{lt_of_lt_of_le, mod-eq_of_lt}
+use mathlib.Core.Path.{refl}
+use Prim.Native.Nat.{◌-◌}
 use native.Mathlib.Omega.{arith}
-use lib.Dec.{lit≤}
 use lib.Count.{count_leading_zeros}
-use lib.Ieee.{binary64, low, of_bits}
-use Rattle.float_ground.specs.Parts.{wide, zeros}
-use Rattle.float_ground.proofs.Apart.{Shift, shift}
-use Rattle.float_ground.proofs.Shifted.{leading, value_by, subnormal_value}
+use lib.Ieee.{binary64, of_bits}
+use Rattle.float_ground.proofs.Shifted.{Brought, subnormal_by}
 use Rattle.float_ground.proofs.root.subnormal64.Goals as goal
 use Rattle.float_ground.proofs.root.subnormal64.Goals.{Start}
 
-module _ (c : Start) where
-  abbrev b : ℕ
-  b = c.args.b
-
-  abbrev z : ℕ
-  z = count_leading_zeros 64 b - 10
-
-  small : b < 2 ^ 53
-  small = lt_of_lt_of_le c.requires.high (lit≤ tt)
-
-  of-b : Shift 64 10 53 b z
-  of-b = let is : z ≡ count_leading_zeros 64 b - 10 = omega arith in shift 64 10 53 b z refl c.requires.low small is
-
-  t-is : b * 2 ^ z % 2 ^ 64 ≡ b * 2 ^ z
-  t-is = mod-eq_of_lt (lt_of_lt_of_le of-b.under (lit≤ tt))
+by : (c : Start) → Brought binary64 64 10 c.args.b (count_leading_zeros 64 c.args.b - 10)
+by c = subnormal_by binary64 64 10 c.args.b _ refl refl c.requires.low c.requires.high
 
 pub overflow_sub-z : goal.overflow_sub-z
-overflow_sub-z c = omega (arith, (of-b c).some)
+overflow_sub-z c = omega (arith, (by c).some)
 
 pub overflow_cast-z : goal.overflow_cast-z
-overflow_cast-z c = record { fits = omega (arith, (of-b c).few) }
+overflow_cast-z c = record { fits = omega (arith, (by c).few) }
 
 pub overflow_sub-z-2 : goal.overflow_sub-z-2
-overflow_sub-z-2 c = omega (arith, (of-b c).few)
+overflow_sub-z-2 c = omega (arith, (by c).few)
 
 pub overflow_shl-b : goal.overflow_shl-b
-overflow_shl-b c = omega (arith, (of-b c).few)
+overflow_shl-b c = omega (arith, (by c).few)
 
 pub root64-requires : goal.root64-requires
-root64-requires c = record { exponent = omega arith; even = ap (λ (y : ℕ). y % 2) (t-is c) ∙ (of-b c).clear 53 (lit≤ tt) (small c) }
+root64-requires c = record { exponent = omega arith; even = (by c).even }
 
 pub returns : goal.returns
-returns c =
-    let at = (goal.at.returns c).Start in
-    let t = b at * 2 ^ z at % 2 ^ 64 in
-    let digits : t % 2 ^ wide binary64 + 2 ^ wide binary64 ≡ b at * 2 ^ z at =
-    ap (λ (y : ℕ). y % 2 ^ 53 + 2 ^ 53) (t-is at) ∙ leading (b at * 2 ^ z at) (2 ^ 53) (of-b at).at_least (of-b at).under in
-    let sum : 0 + (low binary64 + low binary64 + 1 - zeros binary64) ≡ z at + (1023 - z at) + low binary64 = omega (arith, (of-b at).few) in
-    c.root64.ensures (of_bits binary64 (b at)) (value_by binary64 (of_bits binary64 (b at)) (b at) 0 (z at) (1023 - z at) t
-    (subnormal_value binary64 (b at) c.requires.high) digits sum)
+returns c = c.root64.ensures (of_bits binary64 c.args.b) (by (goal.at.returns c).Start).value
