@@ -1,5 +1,6 @@
 -- What a call that makes a table answers, by the tests that led there. Assumes nothing.
 use Rattle.std.proofs.Common.{◌≡◌, ℕ, ◌+◌, ◌-◌, ◌*◌, ◌%◌, ◌^◌, ◌<◌, ◌≤◌, Bool, true, false, cond, not, ◌||◌, ltb, List, ◌++◌, length, take, drop, sym, refl, ap, ◌∙◌, arith, take_at, pow_mono, le-ltb, lt-ltb, eq-eqb, ne_eqb}
+use Rattle.std.specs.Prelude.{Result, Ok, Err}
 use lib.Seq.{sets}
 use lib.Ieee.{Float}
 use Rattle.point.specs.Numbers.{flat, points_of}
@@ -9,10 +10,6 @@ use Rattle.conic.specs.Level.{ceiling}
 use Rattle.conic_cut.specs.Cut.{room, cut_buffer}
 use Rattle.conic_cut.proofs.Lists.{sets_whole, sets-take}
 use Rattle.conic_cut.proofs.Stores.{flat-length, points_flat, written-length}
-use Rattle.date_table.specs.declared.lookup.Check.{Check}
-use Rattle.date_table.specs.declared.lookup.Check.TheVariants as C
-use Rattle.date_table.specs.declared.Made.{Made}
-use Rattle.date_table.specs.declared.Made.TheVariants.{Entries, Refused}
 use Rattle.date_table.specs.declared.Refusal.{Refusal}
 use Rattle.date_table.specs.declared.Refusal.TheVariants.{LevelTooHigh, BufferTooShort, EntryOutOfRange, TableFalls}
 use Rattle.date_table.specs.Answers.{number_of_made, values_of_made}
@@ -22,16 +19,16 @@ use Rattle.date_table.proofs.Dates.{passed_well, refused_too}
 use Rattle.date_table.proofs.Taken.{rounded_length, within_all}
 
 -- ---- the number and the values of an answer
-of_answer : {A : Type 0} (of : Made → A) (deep short far falls : Bool) (n : ℕ)
-    → of (cond deep (Refused LevelTooHigh) (cond short (Refused BufferTooShort) (cond far (Refused EntryOutOfRange) (cond falls (Refused TableFalls) (Entries n)))))
-    ≡ cond deep (of (Refused LevelTooHigh)) (cond short (of (Refused BufferTooShort)) (cond far (of (Refused EntryOutOfRange)) (cond falls (of (Refused TableFalls)) (of (Entries n)))))
+of_answer : {A : Type 0} (of : Result ℕ Refusal → A) (deep short far falls : Bool) (n : ℕ)
+    → of (cond deep (Err LevelTooHigh) (cond short (Err BufferTooShort) (cond far (Err EntryOutOfRange) (cond falls (Err TableFalls) (Ok n)))))
+    ≡ cond deep (of (Err LevelTooHigh)) (cond short (of (Err BufferTooShort)) (cond far (of (Err EntryOutOfRange)) (cond falls (of (Err TableFalls)) (of (Ok n)))))
 of_answer of true short far falls n = refl
 of_answer of false true far falls n = refl
 of_answer of false false true falls n = refl
 of_answer of false false false true n = refl
 of_answer of false false false false n = refl
 
-pub made_into : {n : ℕ} {c : Conic} {short : Bool} {l : List ℕ} {r : Made} {l₁ : List ℕ}
+pub made_into : {n : ℕ} {c : Conic} {short : Bool} {l : List ℕ} {r : Result ℕ Refusal} {l₁ : List ℕ}
     → r ≡ made_answer n (length l) short c → l₁ ≡ made_table n c short l → MadeInto n c short l r l₁
 unfolding made_answer
 made_into {n = n} {c = c} {short = short} {l = l} e b =
@@ -52,11 +49,11 @@ in_front t b l n e h k = let z : n - 0 ≡ n = omega arith in ap (λ (j : ℕ). 
 
 -- ---- the level and the room
 module _ (n : ℕ) (c : Conic) (short : Bool) (l : List ℕ) where
-  pub too_deep : ceiling < n → MadeInto n c short l (Refused LevelTooHigh) l
+  pub too_deep : ceiling < n → MadeInto n c short l (Err LevelTooHigh) l
   unfolding made_answer made_table
   too_deep h = made_into (rw (lt-ltb ceiling n h)) (rw (lt-ltb ceiling n h))
 
-  pub too_short : n ≤ ceiling → (ltb (length l) (table_room n) || short) ≡ true → MadeInto n c short l (Refused BufferTooShort) l
+  pub too_short : n ≤ ceiling → (ltb (length l) (table_room n) || short) ≡ true → MadeInto n c short l (Err BufferTooShort) l
   unfolding made_answer made_table
   too_short h k = made_into (rw (le-ltb ceiling n h, k)) (rw (le-ltb ceiling n h, k))
 
@@ -93,30 +90,30 @@ module _ (n : ℕ) (c : Conic) where
     pub tested : {A : Type 0} (refused : Refusal → A) (well : A) → refuse_made n (length l) false c refused well ≡ refuse_table table refused well
     tested refused well = rw (le-ltb ceiling n low, le-ltb (length l) (table_room n) fits) (sym (tested_table refused well))
 
-    pub made : check_of table ≡ C.Passed → (Entries (2 ^ n + 1) ≡ made_answer n (length l) false c) × (table ++ drop (table_room n) l ≡ made_table n c false l)
+    pub made : check_of table ≡ Ok tt → (Ok (2 ^ n + 1) ≡ made_answer n (length l) false c) × (table ++ drop (table_room n) l ≡ made_table n c false l)
     unfolding made_answer made_table
     made p = (
-      sym (tested Refused (Entries (2 ^ n + 1)) ∙ passed_well table Refused (Entries (2 ^ n + 1)) p),
+      sym (tested Err (Ok (2 ^ n + 1)) ∙ passed_well table Err (Ok (2 ^ n + 1)) p),
       sym (tested (λ _. l) (table ++ drop (table_room n) l) ∙ passed_well table (λ _. l) (table ++ drop (table_room n) l) p),
     )
 
-    pub refused : (why : Refusal) → check_of table ≡ C.Refused why → (Refused why ≡ made_answer n (length l) false c) × (l ≡ made_table n c false l)
+    pub refused : (why : Refusal) → check_of table ≡ Err why → (Err why ≡ made_answer n (length l) false c) × (l ≡ made_table n c false l)
     unfolding made_answer made_table
     refused why p = (
-      refused_too table Refused (Entries (2 ^ n + 1)) why p ∙ sym (tested Refused (Entries (2 ^ n + 1))),
+      refused_too table Err (Ok (2 ^ n + 1)) why p ∙ sym (tested Err (Ok (2 ^ n + 1))),
       refused_too table (λ _. l) (table ++ drop (table_room n) l) why p ∙ sym (tested (λ _. l) (table ++ drop (table_room n) l)),
     )
 
     -- ---- t are the rounded numbers, found is what their test found, and l₁ is what that left in the buffer
-    module _ (t l₁ : List ℕ) (found : Check) (is-table : t ≡ table) (tests : found ≡ check_of t) (leaves : l₁ ≡ stored_by found l t) where
-      pub stored_made : (s : ℕ) → s ≡ 2 ^ n → found ≡ C.Passed → (Entries (s + 1) ≡ made_answer n (length l) false c) × (l₁ ≡ made_table n c false l)
+    module _ (t l₁ : List ℕ) (found : Result (Unit {0}) Refusal) (is-table : t ≡ table) (tests : found ≡ check_of t) (leaves : l₁ ≡ stored_by found l t) where
+      pub stored_made : (s : ℕ) → s ≡ 2 ^ n → found ≡ Ok tt → (Ok (s + 1) ≡ made_answer n (length l) false c) × (l₁ ≡ made_table n c false l)
       stored_made s e told =
           let q = made (sym (ap check_of is-table) ∙ sym tests ∙ told) in (
-            ap (λ (k : ℕ). Entries (k + 1)) e ∙ q.0,
-            leaves ∙ ap (λ (k : Check). stored_by k l t) told ∙ ap (sets l 0) is-table ∙ sets_whole table l (table_room n) table_length fits ∙ q.1,
+            ap (λ (k : ℕ). Ok (k + 1)) e ∙ q.0,
+            leaves ∙ ap (λ (k : Result (Unit {0}) Refusal). stored_by k l t) told ∙ ap (sets l 0) is-table ∙ sets_whole table l (table_room n) table_length fits ∙ q.1,
           )
 
-      pub stored_refused : (why : Refusal) → found ≡ C.Refused why → (Refused why ≡ made_answer n (length l) false c) × (l₁ ≡ made_table n c false l)
+      pub stored_refused : (why : Refusal) → found ≡ Err why → (Err why ≡ made_answer n (length l) false c) × (l₁ ≡ made_table n c false l)
       stored_refused why told =
           let q = refused why (sym (ap check_of is-table) ∙ sym tests ∙ told) in
-          (q.0, leaves ∙ ap (λ (k : Check). stored_by k l t) told ∙ q.1)
+          (q.0, leaves ∙ ap (λ (k : Result (Unit {0}) Refusal). stored_by k l t) told ∙ q.1)

@@ -1,9 +1,7 @@
 -- The laws of lookups in specs/Laws.antt, over the specs alone. Assumes nothing.
 use Rattle.std.proofs.Common.{◌≡◌, ℕ, ◌%◌, ◌≤◌, Bool, true, false, cond, not, ◌&&◌, ◌||◌, eqb, ltb, leb, List, [], ◌∷◌, length, refl, ap, ◌∙◌, arith, ltb-false, le-ltb, eqb-true, leb-true}
+use Rattle.std.specs.Prelude.{Result, Ok, Err, IsOk}
 use borrow.Author.Tests.{eqb-false}
-use Rattle.date_table.specs.declared.lookup.Check.TheVariants as C
-use Rattle.date_table.specs.declared.Dated.{Dated}
-use Rattle.date_table.specs.declared.Dated.TheVariants as D
 use Rattle.date_table.specs.declared.Refusal.{Refusal}
 use Rattle.date_table.specs.declared.Refusal.TheVariants.{BufferTooShort, OddLength, EntryOutOfRange, TimeOutside, TableFalls}
 use Rattle.date_table.specs.Answers.{number_of_refusal, values_of_refusal, number_of_dated, values_of_dated}
@@ -24,7 +22,7 @@ abbrev pub chosen : {A : Type 0} → Bool → Bool → Bool → Bool → (Refusa
 chosen e h w u refused well =
     cond e (refused BufferTooShort) (cond (not h) (refused OddLength) (cond (not w) (refused EntryOutOfRange) (cond (not u) (refused TableFalls) well)))
 
-passes : (e h w u : Bool) → chosen e h w u C.Refused C.Passed ≡ C.Passed → (e ≡ false) × (h ≡ true) × (w ≡ true) × (u ≡ true)
+passes : (e h w u : Bool) → chosen e h w u Err (Ok (tt {0})) ≡ Ok tt → (e ≡ false) × (h ≡ true) × (w ≡ true) × (u ≡ true)
 passes true h w u p = absurd_0 (cc)
 passes false false w u p = absurd_0 (cc)
 passes false true false u p = absurd_0 (cc)
@@ -32,12 +30,19 @@ passes false true true false p = absurd_0 (cc)
 passes false true true true p = (refl, refl, refl, refl)
 
 refused_as : {A : Type 0} (refused : Refusal → A) (well : A) (why : Refusal) (e h w u : Bool)
-    → chosen e h w u C.Refused C.Passed ≡ C.Refused why → refused why ≡ chosen e h w u refused well
+    → chosen e h w u Err (Ok (tt {0})) ≡ Err why → refused why ≡ chosen e h w u refused well
 refused_as refused well why true h w u p = ap refused (cc)
 refused_as refused well why false false w u p = ap refused (cc)
 refused_as refused well why false true false u p = ap refused (cc)
 refused_as refused well why false true true false p = ap refused (cc)
 refused_as refused well why false true true true p = absurd_0 (cc)
+
+ok_alone : (r : Result (Unit {0}) Refusal) → IsOk r → r ≡ Ok tt
+ok_alone (Ok u) h = refl
+ok_alone (Err why) h = absurd_0 (cc)
+
+pub passed : (l : List ℕ) → IsOk (check_of l) → check_of l ≡ Ok tt
+passed l h = ok_alone (check_of l) h
 
 module _ (l : List ℕ) where
   -- what a table that passes is
@@ -46,32 +51,32 @@ module _ (l : List ℕ) where
     pub low : within l ≡ true
     pub good : Good l
 
-  pub sound : check_of l ≡ C.Passed → Sound
+  pub sound : check_of l ≡ Ok tt → Sound
   unfolding check_of
   sound p =
       let q = passes (eqb (length l) 0) (eqb (length l % 2) 0) (within l) (rising l) p in
       let e = eqb-true (length l % 2) 0 q.1 in
       record { even = e; low = q.2; good = good_of l (eqb-false (length l) 0 q.0) e q.3 }
 
-  pub passed_well : {A : Type 0} (refused : Refusal → A) (well : A) → check_of l ≡ C.Passed → refuse_table l refused well ≡ well
+  pub passed_well : {A : Type 0} (refused : Refusal → A) (well : A) → check_of l ≡ Ok tt → refuse_table l refused well ≡ well
   unfolding check_of
   passed_well refused well p =
       let q = passes (eqb (length l) 0) (eqb (length l % 2) 0) (within l) (rising l) p in
       rw (q.0, q.1, q.2, q.3)
 
-  pub refused_too : {A : Type 0} (refused : Refusal → A) (well : A) (why : Refusal) → check_of l ≡ C.Refused why → refused why ≡ refuse_table l refused well
+  pub refused_too : {A : Type 0} (refused : Refusal → A) (well : A) (why : Refusal) → check_of l ≡ Err why → refused why ≡ refuse_table l refused well
   unfolding check_of
   refused_too refused well why p = refused_as refused well why (eqb (length l) 0) (eqb (length l % 2) 0) (within l) (rising l) p
 
 -- ---- what a date tells
 record Tells (l : List ℕ) (r d : ℕ) : Type 0 where
-  pub passed : check_of l ≡ C.Passed
+  pub passed : check_of l ≡ Ok tt
   pub first : first_x l ≤ r
   pub last : r ≤ last_x l
   pub date : d ≡ date_in l r
 
-inverted : (e h w u o : Bool) (n d : ℕ) → chosen e h w u D.Refused (cond o (D.Refused TimeOutside) (D.Date n)) ≡ D.Date d
-    → (chosen e h w u C.Refused C.Passed ≡ C.Passed) × (o ≡ false) × (d ≡ n)
+inverted : (e h w u o : Bool) (n d : ℕ) → chosen e h w u Err (cond o (Err TimeOutside) (Ok n)) ≡ Ok d
+    → (chosen e h w u Err (Ok (tt {0})) ≡ Ok tt) × (o ≡ false) × (d ≡ n)
 inverted true h w u o n d p = absurd_0 (cc)
 inverted false false w u o n d p = absurd_0 (cc)
 inverted false true false u o n d p = absurd_0 (cc)
@@ -79,14 +84,14 @@ inverted false true true false o n d p = absurd_0 (cc)
 inverted false true true true true n d p = absurd_0 (cc)
 inverted false true true true false n d p = (refl, refl, cc)
 
-tells : (l : List ℕ) (r d : ℕ) → date_of l r ≡ D.Date d → Tells l r d
+tells : (l : List ℕ) (r d : ℕ) → date_of l r ≡ Ok d → Tells l r d
 unfolding date_of check_of
 tells l r d e =
     let q = inverted (eqb (length l) 0) (eqb (length l % 2) 0) (within l) (rising l) (outside l r) (date_in l r) d e in
     let o = neither (ltb r (first_x l)) (ltb (last_x l) r) q.1 in
     record { passed = q.0; first = ltb-false r (first_x l) o.0; last = ltb-false (last_x l) r o.1; date = q.2 }
 
-pub walked : (l : List ℕ) (r : ℕ) → check_of l ≡ C.Passed → first_x l ≤ r → r ≤ last_x l → date_in l r ≡ walk l r
+pub walked : (l : List ℕ) (r : ℕ) → check_of l ≡ Ok tt → first_x l ≤ r → r ≤ last_x l → date_in l r ≡ walk l r
 walked l r p a b = date_walk r a b (sound l p).good
 
 told : (l : List ℕ) (r d : ℕ) → Tells l r d → d ≡ walk l r
@@ -126,7 +131,7 @@ dates_in_range l r d p =
 pub dated : EveryTimeIsDated
 unfolding date_of
 dated l r p a b =
-    passed_well l D.Refused (cond (outside l r) (D.Refused TimeOutside) (D.Date (date_in l r))) p
+    passed_well l Err (cond (outside l r) (Err TimeOutside) (Ok (date_in l r))) p
     ∙ rw (le-ltb r (first_x l) a, le-ltb (last_x l) r b)
 
 -- and no other
@@ -137,7 +142,7 @@ only l r d p = let t = tells l r d p in (t.passed, t.first, t.last)
 pub last_kept : TheLastIsKept
 last_kept l p =
     let g = (sound l p).good in
-    dated l (last_x l) p (ends_x g) (omega arith) ∙ ap D.Date (walked l (last_x l) p (ends_x g) (omega arith) ∙ walk_last (last_x l) (omega arith) g)
+    dated l (last_x l) p (ends_x g) (omega arith) ∙ ap Ok (walked l (last_x l) p (ends_x g) (omega arith) ∙ walk_last (last_x l) (omega arith) g)
 
 -- ---- the number and the values of an answer
 pub of_table : {A : Type 0} {B : Type 0} (of : B → A) (l : List ℕ) (refused : Refusal → B) (well : B)
@@ -155,22 +160,22 @@ pub of_cond : {A : Type 0} {B : Type 0} (of : B → A) (b : Bool) (x y : B) → 
 of_cond of true x y = refl
 of_cond of false x y = refl
 
-of_dated : {A : Type 0} (of : Dated → A) (l : List ℕ) (r : ℕ) (d : Dated) → d ≡ date_of l r
-    → of d ≡ refuse_time l r (λ w. of (D.Refused w)) (of (D.Date (date_in l r)))
+of_dated : {A : Type 0} (of : Result ℕ Refusal → A) (l : List ℕ) (r : ℕ) (d : Result ℕ Refusal) → d ≡ date_of l r
+    → of d ≡ refuse_time l r (λ w. of (Err w)) (of (Ok (date_in l r)))
 unfolding date_of
 of_dated of l r d e =
-    ap of e ∙ of_table of l D.Refused (cond (outside l r) (D.Refused TimeOutside) (D.Date (date_in l r)))
-    ∙ ap (refuse_table l (λ w. of (D.Refused w))) (of_cond of (outside l r) (D.Refused TimeOutside) (D.Date (date_in l r)))
+    ap of e ∙ of_table of l Err (cond (outside l r) (Err TimeOutside) (Ok (date_in l r)))
+    ∙ ap (refuse_table l (λ w. of (Err w))) (of_cond of (outside l r) (Err TimeOutside) (Ok (date_in l r)))
 
-pub dated_at : {l : List ℕ} {r : ℕ} {d : Dated} → d ≡ date_of l r → DatedAt l r d
+pub dated_at : {l : List ℕ} {r : ℕ} {d : Result ℕ Refusal} → d ≡ date_of l r → DatedAt l r d
 dated_at {l} {r} {d} e = record { answer = e; number = of_dated number_of_dated l r d e; values = of_dated values_of_dated l r d e }
 
-pub table_refused : (l : List ℕ) (r : ℕ) (why : Refusal) → check_of l ≡ C.Refused why → DatedAt l r (D.Refused why)
+pub table_refused : (l : List ℕ) (r : ℕ) (why : Refusal) → check_of l ≡ Err why → DatedAt l r (Err why)
 unfolding date_of
-table_refused l r why p = dated_at (refused_too l D.Refused (cond (outside l r) (D.Refused TimeOutside) (D.Date (date_in l r))) why p)
+table_refused l r why p = dated_at (refused_too l Err (cond (outside l r) (Err TimeOutside) (Ok (date_in l r))) why p)
 
 -- ---- what the number 0 tells
-told_zero : (e h w u o : Bool) → 0 ≡ chosen e h w u number_of_refusal (cond o 11 0) → (chosen e h w u C.Refused C.Passed ≡ C.Passed) × (o ≡ false)
+told_zero : (e h w u o : Bool) → 0 ≡ chosen e h w u number_of_refusal (cond o 11 0) → (chosen e h w u Err (Ok (tt {0})) ≡ Ok tt) × (o ≡ false)
 told_zero true h w u o p = absurd (omega arith)
 told_zero false false w u o p = absurd (omega arith)
 told_zero false true false u o p = absurd (omega arith)
@@ -180,10 +185,10 @@ told_zero false true true true false p = (refl, refl)
 
 -- there is a date, and it is the value
 pub answered_zero : (l : List ℕ) (r : ℕ) → 0 ≡ refuse_time l r number_of_refusal 0
-    → (date_of l r ≡ D.Date (date_in l r)) × (refuse_time l r values_of_refusal (date_in l r ∷ []) ≡ date_in l r ∷ [])
+    → (date_of l r ≡ Ok (date_in l r)) × (refuse_time l r values_of_refusal (date_in l r ∷ []) ≡ date_in l r ∷ [])
 unfolding date_of check_of
 answered_zero l r p =
     let q = told_zero (eqb (length l) 0) (eqb (length l % 2) 0) (within l) (rising l) (outside l r) p in (
-      passed_well l D.Refused (cond (outside l r) (D.Refused TimeOutside) (D.Date (date_in l r))) q.0 ∙ rw q.1,
+      passed_well l Err (cond (outside l r) (Err TimeOutside) (Ok (date_in l r))) q.0 ∙ rw q.1,
       passed_well l values_of_refusal (cond (outside l r) [] (date_in l r ∷ [])) q.0 ∙ rw q.1,
     )

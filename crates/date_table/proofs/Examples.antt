@@ -1,19 +1,19 @@
 -- Dates that docs/RULES.md gives, and those of a small table with a jump and a stop, as antt computes them. Assumes nothing.
 use Rattle.std.proofs.Common.{◌≡◌, ℕ, false, T, List, [], ◌∷◌, map, pos, refl}
+use Rattle.std.specs.Prelude.{Result, Ok, Err}
 use lib.Ieee.{Float, fin, lt, eq, le}
 use Rattle.point.specs.Point.{point_from}
 use Rattle.conic.specs.declared.Conic.{Conic}
 use Rattle.conic.specs.declared.Rule.{Rule}
 use Rattle.conic.specs.Chop.{along, conic_from}
 use Rattle.conic.specs.Rule.{Axis, X, Y}
-use Rattle.date_table.specs.declared.Dated.{Dated}
-use Rattle.date_table.specs.declared.Dated.TheVariants.{Date, Refused}
+use Rattle.date_table.specs.declared.Refusal.{Refusal}
 use Rattle.date_table.specs.declared.Refusal.TheVariants.{BufferTooShort, OddLength, EntryOutOfRange, TimeOutside, TableFalls}
 use Rattle.date_table.specs.Forward.{Forward}
 use Rattle.date_table.specs.Whole.{in_range}
 use Rattle.date_table.specs.Table.{within, rising, first_x, last_x, last_y, or_else, last_from, span_at, date_in, date_of}
 
-figures : map (date_of (0 ∷ 0 ∷ 3 ∷ 1 ∷ 4 ∷ 4 ∷ [])) (0 ∷ 1 ∷ 2 ∷ 3 ∷ 4 ∷ 5 ∷ []) ≡ Date 0 ∷ Date 0 ∷ Date 0 ∷ Date 1 ∷ Date 4 ∷ Refused TimeOutside ∷ []
+figures : map (date_of (0 ∷ 0 ∷ 3 ∷ 1 ∷ 4 ∷ 4 ∷ [])) (0 ∷ 1 ∷ 2 ∷ 3 ∷ 4 ∷ 5 ∷ []) ≡ Ok 0 ∷ Ok 0 ∷ Ok 0 ∷ Ok 1 ∷ Ok 4 ∷ Err TimeOutside ∷ []
 unfolding date_of within rising first_x last_x last_y or_else last_from span_at date_in
 figures = refl
 
@@ -21,16 +21,16 @@ figures = refl
 abbrev jumps_and_stops : List ℕ
 jumps_and_stops = 2 ∷ 100 ∷ 10 ∷ 105 ∷ 10 ∷ 200 ∷ 20 ∷ 210 ∷ 30 ∷ 210 ∷ []
 
-dates : map (date_of jumps_and_stops) (1 ∷ 2 ∷ 9 ∷ 10 ∷ 25 ∷ 30 ∷ []) ≡ Refused TimeOutside ∷ Date 100 ∷ Date 104 ∷ Date 200 ∷ Date 210 ∷ Date 210 ∷ []
+dates : map (date_of jumps_and_stops) (1 ∷ 2 ∷ 9 ∷ 10 ∷ 25 ∷ 30 ∷ []) ≡ Err TimeOutside ∷ Ok 100 ∷ Ok 104 ∷ Ok 200 ∷ Ok 210 ∷ Ok 210 ∷ []
 unfolding date_of within rising first_x last_x last_y or_else last_from span_at date_in
 dates = refl
 
 -- 2, 9, 10 before 12, 12 before 11
-abbrev at_0 : List ℕ → Dated
+abbrev at_0 : List ℕ → Result ℕ Refusal
 at_0 l = date_of l 0
 
 refusals : map at_0 ([] ∷ (16777217 ∷ []) ∷ (5 ∷ 7 ∷ 4 ∷ 16777217 ∷ []) ∷ (5 ∷ 7 ∷ 6 ∷ 6 ∷ []) ∷ [])
-    ≡ Refused BufferTooShort ∷ Refused OddLength ∷ Refused EntryOutOfRange ∷ Refused TableFalls ∷ []
+    ≡ Err BufferTooShort ∷ Err OddLength ∷ Err EntryOutOfRange ∷ Err TableFalls ∷ []
 unfolding date_of within rising
 refusals = refl
 

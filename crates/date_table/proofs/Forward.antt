@@ -1,6 +1,7 @@
 -- A forward bridge is never refused: the points of its cut rise along both axes from its start to its end, so every second one does,
 -- lies in range, and is rounded to a table that rises. Assumes nothing.
 use Rattle.std.proofs.Common.{◌≡◌, ℕ, ◌+◌, ◌%◌, ◌^◌, ◌≤◌, Bool, true, false, ◌&&◌, T, List, [], ◌∷◌, ◌++◌, length, take, drop, pos, sym, refl, ap, ◌∙◌, ⊎_elim, arith, take_at, drop_at, le-ltb, le-leb}
+use Rattle.std.specs.Prelude.{Result, Ok, Err}
 use mathlib.Core.Path.{subst⁻¹}
 use lib.Ieee.{Float, nan, inf, fin, le}
 use lib.Ieee.Bits.{is_true}
@@ -18,9 +19,7 @@ use Rattle.conic.specs.Rule.{Axis, X, Y, test_along}
 use Rattle.conic_cut.specs.Order.{Steps, ge, AllFiniteCoordinates, first_of, last_of, Premise, InOrder}
 use Rattle.conic_cut.proofs.Order.{cut_in_order}
 use Rattle.conic_cut.proofs.Stores.{written-length}
-use Rattle.date_table.specs.declared.lookup.Check.TheVariants as C
-use Rattle.date_table.specs.declared.Made.{Made}
-use Rattle.date_table.specs.declared.Made.TheVariants.{Entries}
+use Rattle.date_table.specs.declared.Refusal.{Refusal}
 use Rattle.date_table.specs.Forward.{Forward, table_in, DatesThrough, NeverRefused}
 use Rattle.date_table.specs.Making.{by_both_axes, every_second, taken_of, rounded_of, all_in_range, cut_of, table_room, made_answer, made_table, MadeInto}
 use Rattle.date_table.specs.Table.{rising, check_of, first_x, first_y, last_x, last_y}
@@ -187,7 +186,7 @@ module _ (n : ℕ) (c : Conic) (f : Forward c) where
   led_cut : Led c f (cut_of n c)
   led_cut = led c f (cut_of n c) (omega (arith, written-length chop_by_rule n (by_both_axes c))) (λ k. cut_in_order k n (by_both_axes c) (exact_both k) (premise c f k))
 
-  passes : check_of t ≡ C.Passed
+  passes : check_of t ≡ Ok tt
   passes =
       let e = table_length n c in
       let some : length t ≡ 0 → ⊥ = λ z. omega arith in
@@ -205,8 +204,8 @@ module _ (n : ℕ) (c : Conic) (f : Forward c) where
         rw (walked t r passes a (omega arith), walked t s passes (omega arith) b) (walk_mono r s h (sound t passes).good);
   }
 
-pub never_refused : (n : ℕ) (c : Conic) (l : List ℕ) (r : Made) (l₁ : List ℕ)
-    → r ≡ made_answer n (length l) false c → l₁ ≡ made_table n c false l → NeverRefused (Entries (2 ^ n + 1)) n c l r l₁
+pub never_refused : (n : ℕ) (c : Conic) (l : List ℕ) (r : Result ℕ Refusal) (l₁ : List ℕ)
+    → r ≡ made_answer n (length l) false c → l₁ ≡ made_table n c false l → NeverRefused (Ok (2 ^ n + 1)) n c l r l₁
 never_refused n c l r l₁ e b low fits f =
     let t = table n c in
     let m = made n c l low fits (passes n c f) in
@@ -214,14 +213,10 @@ never_refused n c l r l₁ e b low fits f =
     let there : table_in n l₁ ≡ t = ap (take (table_room n)) stored ∙ take_at t (drop (table_room n) l) (table_room n) (table_length n c) in
     (e ∙ sym m.0, (subst⁻¹ (DatesThrough c) there (dates n c f), ap (drop (table_room n)) stored ∙ drop_at t (drop (table_room n) l) (table_room n) (table_length n c)))
 
--- with the rest of the contract; and of a lent source
-pub promised : {n : ℕ} {c : Conic} {l : List ℕ} {r : Made} {l₁ : List ℕ} → MadeInto n c false l r l₁ → MadeInto n c false l r l₁ × NeverRefused (Entries (2 ^ n + 1)) n c l r l₁
-promised {n} {c} {l} {r} {l₁} m = (m, never_refused n c l r l₁ m.answer m.table)
-
-pub promised_from : {n : ℕ} {c : Conic} (src : List Float) {l : List ℕ} {r : Made} {l₁ : List ℕ} → MadeInto n c (short_source src) l r l₁
-    → MadeInto n c (short_source src) l r l₁ × (6 ≤ length src → NeverRefused (Entries (2 ^ n + 1)) n c l r l₁)
-promised_from {n} {c} src {l} {r} {l₁} m = (
-  m,
-  λ h. never_refused n c l r l₁ (m.answer ∙ ap (λ (b : Bool). made_answer n (length l) b c) (le-ltb (length src) 6 h))
-      (m.table ∙ ap (λ (b : Bool). made_table n c b l) (le-ltb (length src) 6 h)),
-)
+-- and of a lent source
+pub never_refused_from : (n : ℕ) (c : Conic) (src : List Float) (l : List ℕ) (r : Result ℕ Refusal) (l₁ : List ℕ)
+    → r ≡ made_answer n (length l) (short_source src) c → l₁ ≡ made_table n c (short_source src) l
+    → 6 ≤ length src → NeverRefused (Ok (2 ^ n + 1)) n c l r l₁
+never_refused_from n c src l r l₁ e b h =
+    never_refused n c l r l₁ (e ∙ ap (λ (k : Bool). made_answer n (length l) k c) (le-ltb (length src) 6 h))
+    (b ∙ ap (λ (k : Bool). made_table n c k l) (le-ltb (length src) 6 h))

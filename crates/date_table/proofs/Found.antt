@@ -1,15 +1,17 @@
 -- The date of a time, by the place of the last entry whose x is not above it. Assumes nothing.
-use Rattle.std.proofs.Common.{◌≡◌, ℕ, suc, ◌+◌, ◌-◌, ◌<◌, ◌≤◌, true, false, cond, List, length, get_or, sym, refl, ap, ◌∙◌, arith}
-use Rattle.date_table.specs.declared.lookup.Check.TheVariants.{Passed}
-use Rattle.date_table.specs.declared.Dated.TheVariants.{Date, Refused}
+use Rattle.std.proofs.Common.{◌≡◌, ℕ, suc, ◌+◌, ◌-◌, ◌<◌, ◌≤◌, true, false, cond, ◌||◌, ltb, List, length, get_or, sym, refl, ap, ◌∙◌, arith}
+use Rattle.std.specs.Prelude.{Result, Ok, Err, IsOk}
 use Rattle.date_table.specs.declared.Refusal.TheVariants.{TimeOutside}
 use Rattle.date_table.specs.Search.{Bracket, LastNotAbove}
 use Rattle.date_table.specs.Table.{check_of, first_x, last_x, part_way, outside, date_in, date_of}
-use Rattle.date_table.proofs.Dates.{sound, passed_well, dated, walked}
+use Rattle.date_table.proofs.Dates.{passed, sound, passed_well, dated, walked}
 use Rattle.date_table.proofs.Many.{inside_of}
-use Rattle.date_table.proofs.Places.{good_length, at, first_is}
+use Rattle.date_table.proofs.Places.{good_length, at, first_is, outside_is}
 
-module _ (l : List ℕ) (r : ℕ) (p : check_of l ≡ Passed) where
+module _ (l : List ℕ) (r : ℕ) (passes : IsOk (check_of l)) where
+  abbrev p : check_of l ≡ Ok tt
+  p = passed l passes
+
   -- ---- in a table that passes, from its first x to its last
   module _ (first : first_x l ≤ r) (last : r ≤ last_x l) where
     -- where the search begins
@@ -47,9 +49,16 @@ module _ (l : List ℕ) (r : ℕ) (p : check_of l ≡ Passed) where
         }
 
   -- ---- the answer
-  pub is_outside : outside l r ≡ true → Refused TimeOutside ≡ date_of l r
+  pub is_outside : outside l r ≡ true → Err TimeOutside ≡ date_of l r
   unfolding date_of
-  is_outside t = sym (passed_well l Refused (cond (outside l r) (Refused TimeOutside) (Date (date_in l r))) p ∙ rw t)
+  is_outside t = sym (passed_well l Err (cond (outside l r) (Err TimeOutside) (Ok (date_in l r))) p ∙ rw t)
 
-  pub is_date : (d : ℕ) → outside l r ≡ false → d ≡ date_in l r → Date d ≡ date_of l r
-  is_date d t e = let q = inside_of l r t in ap Date e ∙ sym (dated l r p q.0 q.1)
+  pub is_date : (d : ℕ) → outside l r ≡ false → d ≡ date_in l r → Ok d ≡ date_of l r
+  is_date d t e = let q = inside_of l r t in ap Ok e ∙ sym (dated l r p q.0 q.1)
+
+-- ---- by the places of its numbers
+pub two_numbers : (l : List ℕ) → IsOk (check_of l) → 2 ≤ length l
+two_numbers l p = good_length (sound l (passed l p)).good
+
+pub outside_by_place : (l : List ℕ) (r : ℕ) → IsOk (check_of l) → (ltb r (get_or l 0 0) || ltb (get_or l (length l - 2) 0) r) ≡ outside l r
+outside_by_place l r p = sym (outside_is l r (sound l (passed l p)).good)

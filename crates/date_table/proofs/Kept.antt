@@ -1,7 +1,7 @@
 -- At the x of an entry, the last with that x, the date is its y. Assumes nothing.
 use Rattle.std.proofs.Common.{◌≡◌, ℕ, suc, ◌+◌, ◌-◌, ◌*◌, ◌<◌, ◌≤◌, ◌∷◌, ◌++◌, length, get_or, ap, ◌∙◌, arith, length-append, get_or-append-add}
+use Rattle.std.specs.Prelude.{Result, Ok, Err}
 use native.Mathlib.Nat.{zero-div}
-use Rattle.date_table.specs.declared.Dated.TheVariants.{Date}
 use Rattle.date_table.specs.Laws.{EntriesAreKept}
 use Rattle.date_table.specs.Table.{first_x, last_x, part_way}
 use Rattle.date_table.proofs.Dates.{sound, dated, walked}
@@ -24,6 +24,6 @@ entries_kept a b x y x' y' e lt p =
     let long : suc (suc i) < length l = simp length-append (omega arith) in
     let first : first_x l ≤ x = omega (arith, o.from_first) in
     let last : x ≤ last_x l = omega (arith, o.to_last) in
-    dated l x p first last ∙ ap Date
+    dated l x p first last ∙ ap Ok
     (walked l x p first last ∙ o.span x long (omega arith) (omega arith)
     ∙ rw (here, next, there (suc i) 1 (omega arith), there (suc (suc (suc i))) 3 (omega arith)) (between_start x y x' y'))

@@ -1,9 +1,9 @@
 -- The test of a table from the entry at i on, a step and the end. Assumes nothing.
-use Rattle.std.proofs.Common.{◌≡◌, ℕ, ◌+◌, ◌%◌, ◌<◌, ◌≤◌, Bool, true, false, ◌&&◌, ◌||◌, ltb, leb, List, [], ◌∷◌, length, get_or, drop, sym, refl, ap, ◌∙◌, arith, length-drop, drop_of_length-le, get_or-drop, drop-drop, ltb-false, ltb-true, le-ltb, eq-eqb, ne_eqb, le-leb, leb-true}
+use Rattle.std.proofs.Common.{◌≡◌, ℕ, ◌+◌, ◌*◌, ◌/◌, ◌%◌, ◌<◌, ◌≤◌, Bool, true, false, ◌&&◌, ◌||◌, ltb, leb, List, [], ◌∷◌, length, get_or, drop, sym, refl, ap, ◌∙◌, arith, length-drop, drop_of_length-le, get_or-drop, drop-drop, ltb-false, ltb-true, le-ltb, eq-eqb, ne_eqb, le-leb, leb-true}
+use Rattle.std.specs.Prelude.{Result, Ok, Err}
 use mathlib.Core.Bool.{and_assoc, and-true}
 use borrow.Author.Tests.{lt-leb}
 use lib.Dec.{leb-zero}
-use Rattle.date_table.specs.declared.lookup.Check.TheVariants.{Passed, Refused}
 use Rattle.date_table.specs.declared.Refusal.TheVariants.{BufferTooShort, OddLength, EntryOutOfRange, TableFalls}
 use Rattle.date_table.specs.Table.{within, rising, check_of}
 use Rattle.date_table.specs.Whole.{max_entry}
@@ -19,8 +19,10 @@ front_list [] h = absurd (omega arith)
 front_list (x ∷ []) h = absurd (omega arith)
 front_list (x ∷ y ∷ l) h = refl
 
-front : (i : ℕ) (l : List ℕ) → i + 1 < length l → drop i l ≡ get_or l i 0 ∷ get_or l (i + 1) 0 ∷ drop (i + 2) l
-front i l h = front_list (drop i l) (simp length-drop (omega arith)) ∙ rw (at_front, get_or-drop, drop-drop)
+front : (i : ℕ) (l : List ℕ) → i < length l / 2 → drop (2 * i) l ≡ get_or l (2 * i) 0 ∷ get_or l (2 * i + 1) 0 ∷ drop (2 * (i + 1)) l
+front i l h =
+    let next : 2 * (i + 1) ≡ 2 * i + 2 = omega arith in
+    rw next (front_list (drop (2 * i) l) (simp length-drop (omega arith)) ∙ rw (at_front, get_or-drop, drop-drop))
 
 -- ---- a step of the test
 large : (a b : ℕ) (w : Bool) → (ltb max_entry a || ltb max_entry b) ≡ true → (leb a max_entry && (leb b max_entry && w)) ≡ false
@@ -38,25 +40,25 @@ small a b w h =
     let q = neither (ltb max_entry a) (ltb max_entry b) h in
     rw (le-leb a max_entry (ltb-false max_entry a q.0), le-leb b max_entry (ltb-false max_entry b q.1))
 
-module _ (i : ℕ) (l : List ℕ) (here : i + 1 < length l) where
+module _ (i : ℕ) (l : List ℕ) (here : i < length l / 2) where
   abbrev a : ℕ
-  a = get_or l i 0
+  a = get_or l (2 * i) 0
 
   abbrev b : ℕ
-  b = get_or l (i + 1) 0
+  b = get_or l (2 * i + 1) 0
 
-  pub too_large : (ltb max_entry a || ltb max_entry b) ≡ true → within (drop i l) ≡ false
+  pub too_large : (ltb max_entry a || ltb max_entry b) ≡ true → within (drop (2 * i) l) ≡ false
   unfolding within
-  too_large t = ap within (front i l here) ∙ large a b (within (drop (i + 2) l)) t
+  too_large t = ap within (front i l here) ∙ large a b (within (drop (2 * (i + 1)) l)) t
 
-  pub none_large : (ltb max_entry a || ltb max_entry b) ≡ false → within (drop i l) ≡ within (drop (i + 2) l)
+  pub none_large : (ltb max_entry a || ltb max_entry b) ≡ false → within (drop (2 * i) l) ≡ within (drop (2 * (i + 1)) l)
   unfolding within
-  none_large t = ap within (front i l here) ∙ small a b (within (drop (i + 2) l)) t
+  none_large t = ap within (front i l here) ∙ small a b (within (drop (2 * (i + 1)) l)) t
 
-  pub rises_on : (x y : ℕ) (t : Bool) → ((t && (leb x a && leb y b)) && rising (a ∷ b ∷ drop (i + 2) l)) ≡ (t && rising (x ∷ y ∷ drop i l))
+  pub rises_on : (x y : ℕ) (t : Bool) → ((t && (leb x a && leb y b)) && rising (a ∷ b ∷ drop (2 * (i + 1)) l)) ≡ (t && rising (x ∷ y ∷ drop (2 * i) l))
   unfolding rising
   rises_on x y t =
-      and_assoc t (leb x a && leb y b) (rising (a ∷ b ∷ drop (i + 2) l)) ∙ ap (λ (m : List ℕ). t && rising (x ∷ y ∷ m)) (sym (front i l here))
+      and_assoc t (leb x a && leb y b) (rising (a ∷ b ∷ drop (2 * (i + 1)) l)) ∙ ap (λ (m : List ℕ). t && rising (x ∷ y ∷ m)) (sym (front i l here))
 
 -- ---- its start and its end
 rises_first : (x y : ℕ) (l : List ℕ) → ((leb 0 x && leb 0 y) && rising (x ∷ y ∷ l)) ≡ rising (x ∷ y ∷ l)
@@ -68,34 +70,34 @@ rises_start [] = refl
 rises_start (x ∷ []) = refl
 rises_start (x ∷ y ∷ l) = rises_first x y l
 
-pub rises_end : (i : ℕ) (l : List ℕ) (x y : ℕ) (b : Bool) → length l ≤ i → (b && rising (x ∷ y ∷ drop i l)) ≡ b
+pub rises_end : (i : ℕ) (l : List ℕ) (x y : ℕ) (b : Bool) → length l % 2 ≡ 0 → length l / 2 ≤ i → (b && rising (x ∷ y ∷ drop (2 * i) l)) ≡ b
 unfolding rising
-rises_end i l x y b h = rw (drop_of_length-le l h) (and-true b)
+rises_end i l x y b e h = let past : length l ≤ 2 * i = omega arith in rw (drop_of_length-le l past) (and-true b)
 
-pub within_end : (i : ℕ) (l : List ℕ) → length l ≤ i → within (drop i l) ≡ true
+pub within_end : (i : ℕ) (l : List ℕ) → length l % 2 ≡ 0 → length l / 2 ≤ i → within (drop (2 * i) l) ≡ true
 unfolding within
-within_end i l h = rw (drop_of_length-le l h)
+within_end i l e h = let past : length l ≤ 2 * i = omega arith in rw (drop_of_length-le l past)
 
 -- ---- the answers
 module _ (l : List ℕ) where
-  pub is_empty : length l ≡ 0 → Refused BufferTooShort ≡ check_of l
+  pub is_empty : length l ≡ 0 → Err BufferTooShort ≡ check_of l
   unfolding check_of
   is_empty h = rw (eq-eqb (length l) 0 h)
 
   module _ (some : length l ≡ 0 → ⊥) where
-    pub is_odd : (length l % 2 ≡ 0 → ⊥) → Refused OddLength ≡ check_of l
+    pub is_odd : (length l % 2 ≡ 0 → ⊥) → Err OddLength ≡ check_of l
     unfolding check_of
     is_odd k = rw (ne_eqb (length l) 0 some, ne_eqb (length l % 2) 0 k)
 
     module _ (even : length l % 2 ≡ 0) where
-      pub is_large : within l ≡ false → Refused EntryOutOfRange ≡ check_of l
+      pub is_large : within l ≡ false → Err EntryOutOfRange ≡ check_of l
       unfolding check_of
       is_large w = rw (ne_eqb (length l) 0 some, eq-eqb (length l % 2) 0 even, w)
 
-      pub is_well : within l ≡ true → rising l ≡ true → Passed ≡ check_of l
+      pub is_well : within l ≡ true → rising l ≡ true → Ok tt ≡ check_of l
       unfolding check_of
       is_well w u = rw (ne_eqb (length l) 0 some, eq-eqb (length l % 2) 0 even, w, u)
 
-      pub is_falling : within l ≡ true → rising l ≡ false → Refused TableFalls ≡ check_of l
+      pub is_falling : within l ≡ true → rising l ≡ false → Err TableFalls ≡ check_of l
       unfolding check_of
       is_falling w u = rw (ne_eqb (length l) 0 some, eq-eqb (length l % 2) 0 even, w, u)

@@ -1,6 +1,6 @@
 -- Every second point of a list, rounded down: how many numbers that is, a step of storing them, and what a table's test says of them.
 -- Assumes nothing.
-use Rattle.std.proofs.Common.{◌≡◌, ℕ, zero, suc, ◌+◌, ◌*◌, ◌<◌, ◌≤◌, List, [], ◌∷◌, map, length, get_or, drop, set, refl, ap, ◌∙◌, arith, length-drop, get_or-drop, drop-drop}
+use Rattle.std.proofs.Common.{◌≡◌, ℕ, zero, suc, ◌+◌, ◌*◌, ◌/◌, ◌<◌, ◌≤◌, List, [], ◌∷◌, map, length, get_or, drop, set, refl, ap, ◌∙◌, arith, length-drop, length-set, get_or-drop, drop-drop}
 use lib.ListN.{length-map}
 use lib.Seq.{sets}
 use lib.Ieee.{Float, nan}
@@ -38,11 +38,14 @@ front (x ∷ y ∷ z ∷ w ∷ l) h = refl
 at_front : (i : ℕ) (l : List Float) → get_or (drop i l) 0 nan ≡ get_or l i nan
 at_front i l = let z : i + 0 ≡ i = omega arith in get_or-drop i l 0 nan ∙ ap (λ (k : ℕ). get_or l k nan) z
 
-pub left_more : (i : ℕ) (l : List Float) → i + 1 < length l → left i l ≡ whole_of (get_or l i nan) ∷ whole_of (get_or l (i + 1) nan) ∷ left (i + 4) l
+left_more : (i : ℕ) (l : List Float) → i + 1 < length l → left i l ≡ whole_of (get_or l i nan) ∷ whole_of (get_or l (i + 1) nan) ∷ left (i + 4) l
 left_more i l h = front (drop i l) (simp length-drop (omega arith)) ∙ rw (at_front, get_or-drop, drop-drop)
 
-pub left_longer : (i : ℕ) (l : List Float) → i + 1 < length l → length (left i l) ≡ 2 + length (left (i + 4) l)
-left_longer i l h = ap length (left_more i l h) ∙ omega arith
+-- the entry at i is of the numbers from 4 * i on
+pub left_longer : (i : ℕ) (l : List Float) → i < (length l + 2) / 4 → length (left (4 * i) l) ≡ 2 + length (left (4 * (i + 1)) l)
+left_longer i l h =
+    let next : 4 * (i + 1) ≡ 4 * i + 4 = omega arith in
+    rw next (ap length (left_more (4 * i) l (omega arith)) ∙ omega arith)
 
 short : (l : List Float) → length l ≤ 1 → rounded_of (points_of l) ≡ []
 unfolding every_second flat points_of
@@ -50,16 +53,27 @@ short [] h = refl
 short (x ∷ []) h = refl
 short (x ∷ y ∷ l) h = absurd (omega arith)
 
-pub left_none : (i : ℕ) (l : List Float) → length l ≤ i + 1 → left i l ≡ []
-left_none i l h = short (drop i l) (simp length-drop (omega arith))
+pub left_none : (i : ℕ) (l : List Float) → (length l + 2) / 4 ≤ i → left (4 * i) l ≡ []
+left_none i l h = short (drop (4 * i) l) (simp length-drop (omega arith))
 
 -- the entry at t is stored, and then what is left
-pub store-more : (i t : ℕ) (l : List Float) (out : List ℕ) → i + 1 < length l
+store-more : (i t : ℕ) (l : List Float) (out : List ℕ) → i + 1 < length l
     → sets (set (set out t (whole_of (get_or l i nan))) (t + 1) (whole_of (get_or l (i + 1) nan))) (t + 2) (left (i + 4) l) ≡ sets out t (left i l)
 store-more i t l out h =
     let one : t + 1 ≡ suc t = omega arith in
     let two : t + 2 ≡ suc (suc t) = omega arith in
     rw (left_more i l h, two, one)
+
+pub stored_entry : (i x y : ℕ) (l : List Float) (out : List ℕ) → i < (length l + 2) / 4
+    → x ≡ whole_of (get_or l (4 * i) nan) → y ≡ whole_of (get_or l (4 * i + 1) nan)
+    → sets (set (set out (2 * i) x) (2 * i + 1) y) (2 * (i + 1)) (left (4 * (i + 1)) l) ≡ sets out (2 * i) (left (4 * i) l)
+stored_entry i x y l out h ex ey =
+    let to : 2 * (i + 1) ≡ 2 * i + 2 = omega arith in
+    let from : 4 * (i + 1) ≡ 4 * i + 4 = omega arith in
+    rw (ex, ey, to, from) (store-more (4 * i) (2 * i) l out (omega arith))
+
+-- what the loop over the entries is proved by
+pub ruleset entries = (left_longer, left_none, stored_entry, length-set)
 
 -- ---- a table may hold them exactly where the coordinates are in range
 pub within_all : (l : List Float) → within (map whole_of l) ≡ all_in_range l

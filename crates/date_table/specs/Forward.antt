@@ -1,11 +1,10 @@
 -- A forward bridge is never refused, and every time on it has its date (docs/RULES.md, "Dates"). Definitions only.
-use Rattle.std.specs.Prelude.{◌≡◌, ℕ, ◌≤◌, T, List, length, take, drop}
+use Rattle.std.specs.Prelude.{◌≡◌, ℕ, ◌≤◌, T, List, length, take, drop, Ok}
 use Rattle.std.specs.Float.Ieee.{le}
 use Rattle.conic.specs.declared.Conic.{Conic}
 use Rattle.conic.specs.Chop.{along}
 use Rattle.conic.specs.Level.{ceiling}
 use Rattle.conic.specs.Rule.{Axis}
-use Rattle.date_table.specs.declared.Dated.TheVariants.{Date}
 use Rattle.date_table.specs.Making.{table_room}
 use Rattle.date_table.specs.Table.{first_x, first_y, last_x, last_y, date_in, date_of}
 use Rattle.date_table.specs.Whole.{in_range, whole_of}
@@ -31,7 +30,7 @@ pub record DatesThrough (c : Conic) (t : List ℕ) : Type 0 where
   pub last_x_is : last_x t ≡ whole_of c.p2.x
   pub last_y_is : last_y t ≡ whole_of c.p2.y
   pub runs : first_x t ≤ last_x t
-  pub dated : (r : ℕ) → first_x t ≤ r → r ≤ last_x t → date_of t r ≡ Date (date_in t r)
+  pub dated : (r : ℕ) → first_x t ≤ r → r ≤ last_x t → date_of t r ≡ Ok (date_in t r)
   pub in_order : (r s : ℕ) → first_x t ≤ r → r ≤ s → s ≤ last_x t → date_in t r ≤ date_in t s
 
 -- a buffer, l at entry and l₁ at exit: the answer is that of a table that is made, neither 10 nor 12, and the table is there

@@ -1,6 +1,6 @@
 -- The date table of a conic: cut by both axes, every second point from the first on, rounded down (docs/RULES.md, "Dates").
 -- Definitions only.
-use Rattle.std.specs.Prelude.{◌≡◌, ℕ, ◌+◌, ◌*◌, ◌^◌, Bool, true, cond, not, ◌&&◌, ◌||◌, List, [], ◌∷◌, ◌++◌, map, length, drop, nat_lt, Float}
+use Rattle.std.specs.Prelude.{◌≡◌, ℕ, ◌+◌, ◌*◌, ◌^◌, Bool, true, cond, not, ◌&&◌, ◌||◌, List, [], ◌∷◌, ◌++◌, map, length, drop, nat_lt, Result, Ok, Err, Float}
 use Rattle.std.proofs.lemmas.List.Edits.{sets}
 use Rattle.point.specs.declared.Point.{Point}
 use Rattle.point.specs.Numbers.{flat}
@@ -9,10 +9,6 @@ use Rattle.conic.specs.declared.Rule.TheVariants.{BothAxes}
 use Rattle.conic.specs.Chop.{conic_from, chop_by_rule}
 use Rattle.conic.specs.Level.{ceiling}
 use Rattle.conic_cut.specs.Cut.{written}
-use Rattle.date_table.specs.declared.lookup.Check.{Check}
-use Rattle.date_table.specs.declared.lookup.Check.TheVariants as C
-use Rattle.date_table.specs.declared.Made.{Made}
-use Rattle.date_table.specs.declared.Made.TheVariants.{Entries, Refused}
 use Rattle.date_table.specs.declared.Refusal.{Refusal}
 use Rattle.date_table.specs.declared.Refusal.TheVariants.{LevelTooHigh, BufferTooShort, EntryOutOfRange, TableFalls}
 use Rattle.date_table.specs.Answers.{number_of_refusal, values_of_refusal, number_of_made, values_of_made}
@@ -45,9 +41,9 @@ abbrev pub cut_of : ℕ → Conic → List Point
 cut_of n c = written chop_by_rule n (by_both_axes c)
 
 -- what the test of a table leaves in a buffer: the table at its start, or the buffer as it was
-abbrev pub stored_by : Check → List ℕ → List ℕ → List ℕ
-stored_by C.Passed l t = sets l 0 t
-stored_by (C.Refused r) l t = l
+abbrev pub stored_by : Result (Unit {0}) Refusal → List ℕ → List ℕ → List ℕ
+stored_by (Ok passed) l t = sets l 0 t
+stored_by (Err why) l t = l
 
 -- ---- the call, at the level n, into a table of len numbers, from a source that may be short
 abbrev pub table_room : ℕ → ℕ
@@ -61,14 +57,14 @@ refuse_made n len short c refused well =
     (cond (not (all_in_range (taken_of (cut_of n c)))) (refused EntryOutOfRange)
     (cond (not (rising (rounded_of (cut_of n c)))) (refused TableFalls) well)))
 
-unfoldable pub made_answer : ℕ → ℕ → Bool → Conic → Made
-made_answer n len short c = refuse_made n len short c Refused (Entries (2 ^ n + 1))
+unfoldable pub made_answer : ℕ → ℕ → Bool → Conic → Result ℕ Refusal
+made_answer n len short c = refuse_made n len short c Err (Ok (2 ^ n + 1))
 
 unfoldable pub made_table : ℕ → Conic → Bool → List ℕ → List ℕ
 made_table n c short l = refuse_made n (length l) short c (λ _. l) (rounded_of (cut_of n c) ++ drop (table_room n) l)
 
 -- the answer, its number and its values, and the table at exit; two that meet it are one (`one_made` of proofs/Unique)
-pub record MadeInto (n : ℕ) (c : Conic) (short : Bool) (l : List ℕ) (r : Made) (l₁ : List ℕ) : Type 0 where
+pub record MadeInto (n : ℕ) (c : Conic) (short : Bool) (l : List ℕ) (r : Result ℕ Refusal) (l₁ : List ℕ) : Type 0 where
   pub answer : r ≡ made_answer n (length l) short c
   pub number : number_of_made r ≡ refuse_made n (length l) short c number_of_refusal 0
   pub values : values_of_made r ≡ refuse_made n (length l) short c values_of_refusal ((2 ^ n + 1) ∷ [])

@@ -1,10 +1,6 @@
 -- A date table: x then y for each entry, whole milliseconds; its test, and the date of a recorded time (docs/RULES.md, "Dates").
 -- Definitions only.
-use Rattle.std.specs.Prelude.{◌≡◌, ℕ, ◌+◌, ◌-◌, ◌*◌, ◌/◌, ◌%◌, Bool, true, cond, not, ◌&&◌, ◌||◌, List, [], ◌∷◌, length, ◌==◌, nat_le, nat_lt}
-use Rattle.date_table.specs.declared.lookup.Check.{Check}
-use Rattle.date_table.specs.declared.lookup.Check.TheVariants as C
-use Rattle.date_table.specs.declared.Dated.{Dated}
-use Rattle.date_table.specs.declared.Dated.TheVariants as D
+use Rattle.std.specs.Prelude.{◌≡◌, ℕ, ◌+◌, ◌-◌, ◌*◌, ◌/◌, ◌%◌, Bool, true, cond, not, ◌&&◌, ◌||◌, List, [], ◌∷◌, length, ◌==◌, nat_le, nat_lt, Result, Ok, Err}
 use Rattle.date_table.specs.declared.Refusal.{Refusal}
 use Rattle.date_table.specs.declared.Refusal.TheVariants.{BufferTooShort, OddLength, EntryOutOfRange, TimeOutside, TableFalls}
 use Rattle.date_table.specs.Answers.{number_of_refusal, values_of_refusal, number_of_dated, values_of_dated}
@@ -32,8 +28,8 @@ refuse_table l refused well =
     (cond (not (within l)) (refused EntryOutOfRange)
     (cond (not (rising l)) (refused TableFalls) well)))
 
-unfoldable pub check_of : List ℕ → Check
-check_of l = refuse_table l C.Refused C.Passed
+unfoldable pub check_of : List ℕ → Result (Unit {0}) Refusal
+check_of l = refuse_table l Err (Ok tt)
 
 -- ---- the ends of a table
 unfoldable pub first_x : List ℕ → ℕ
@@ -92,11 +88,11 @@ outside l r = nat_lt r (first_x l) || nat_lt (last_x l) r
 abbrev pub refuse_time : {A : Type 0} → List ℕ → ℕ → (Refusal → A) → A → A
 refuse_time l r refused well = refuse_table l refused (cond (outside l r) (refused TimeOutside) well)
 
-unfoldable pub date_of : List ℕ → ℕ → Dated
-date_of l r = refuse_time l r D.Refused (D.Date (date_in l r))
+unfoldable pub date_of : List ℕ → ℕ → Result ℕ Refusal
+date_of l r = refuse_time l r Err (Ok (date_in l r))
 
 -- the answer, its number and its values; two that meet it are one (`one_date` of proofs/Unique)
-pub record DatedAt (l : List ℕ) (r : ℕ) (d : Dated) : Type 0 where
+pub record DatedAt (l : List ℕ) (r : ℕ) (d : Result ℕ Refusal) : Type 0 where
   pub answer : d ≡ date_of l r
   pub number : number_of_dated d ≡ refuse_time l r number_of_refusal 0
   pub values : values_of_dated d ≡ refuse_time l r values_of_refusal (date_in l r ∷ [])

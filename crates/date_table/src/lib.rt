@@ -4,25 +4,27 @@
 // "Dates".
 #![tactic(auto)]
 
-ghost use Rattle.std.specs.Prelude.{◌≡◌, ◌+◌, ◌^◌, ◌≤◌, false, length};
+ghost use Rattle.std.specs.Prelude.{◌≡◌, ◌+◌, ◌^◌, ◌≤◌, Ok, false, length};
 ghost use Rattle.conic.specs.declared.Rule.TheVariants.{BothAxes};
 ghost use Rattle.conic.specs.Source.{conic_of, short_source};
-ghost use Rattle.date_table.specs.declared.Made.TheVariants.{Entries};
-ghost use Rattle.date_table.specs.Answers.{number_of_refusal, number_of_made, number_of_dated, number_of_all_dated};
+ghost use Rattle.date_table.specs.declared.NotDated.TheVariants.{Refused};
+ghost use Rattle.date_table.specs.Answers.{number_of_refusal, refusal_numbers, number_of_not_dated, not_dated_numbers};
 ghost use Rattle.date_table.specs.All.{AllInto};
 ghost use Rattle.date_table.specs.Forward.{NeverRefused};
 ghost use Rattle.date_table.specs.Making.{MadeInto};
 ghost use Rattle.date_table.specs.Table.{DatedAt};
 
-use conic::{Conic, FromPoints, Rule};
-use lookup::Check;
+use answers::Numbered;
+use conic::{Conic, Rule};
+use lookup::Table;
+use std::fmt;
 
 mod lookup;
 mod making;
 pub mod whole;
 
 // Why a call does nothing.
-#[derive(Clone, Copy)]
+#[derive(Clone, Copy, Debug, PartialEq, Eq)]
 pub enum Refusal {
     // The conic is to be cut at a level above 6.
     LevelTooHigh,
@@ -38,11 +40,13 @@ pub enum Refusal {
     TableFalls,
 }
 
-impl Refusal {
-    // Its number in docs/RULES.md, "Answer numbers".
-    pub fn number(self) -> u32
-        ensures { result ≡ number_of_refusal self }
-    {
+// Their numbers in docs/RULES.md, "Answer numbers".
+impl Numbered for Refusal {
+    ghost number_of = { number_of_refusal };
+
+    ghost above_zero = { refusal_numbers };
+
+    fn number(self) -> u32 {
         match self {
             Refusal::LevelTooHigh => 1,
             Refusal::BufferTooShort => 2,
@@ -54,112 +58,92 @@ impl Refusal {
     }
 }
 
-// How many entries were written.
-#[derive(Clone, Copy)]
-pub enum Made {
-    Entries(usize),
-    Refused(Refusal),
-}
-
-impl Made {
-    // Its number in docs/RULES.md, "Answer numbers".
-    pub fn number(self) -> u32
-        ensures { result ≡ number_of_made self }
-    {
+impl fmt::Display for Refusal {
+    fn fmt<W: fmt::Write>(&self, f: &mut fmt::Formatter<W>) -> fmt::Result {
         match self {
-            Made::Entries(_) => 0,
-            Made::Refused(why) => why.number(),
+            Refusal::LevelTooHigh => write!(f, "level too high"),
+            Refusal::BufferTooShort => write!(f, "too short"),
+            Refusal::OddLength => write!(f, "half an entry"),
+            Refusal::EntryOutOfRange => write!(f, "out of range"),
+            Refusal::TimeOutside => write!(f, "outside the bridge"),
+            Refusal::TableFalls => write!(f, "falling"),
         }
     }
 }
 
-// The date of a recorded time.
-#[derive(Clone, Copy)]
-pub enum Dated {
-    Date(u32),
-    Refused(Refusal),
-}
-
-impl Dated {
-    // Its number in docs/RULES.md, "Answer numbers".
-    pub fn number(self) -> u32
-        ensures { result ≡ number_of_dated self }
-    {
-        match self {
-            Dated::Date(_) => 0,
-            Dated::Refused(why) => why.number(),
-        }
-    }
-}
-
-// Whether each of many times was dated; else the place of the first that is outside the table, or why the table is refused.
-#[derive(Clone, Copy)]
-pub enum AllDated {
-    Dates,
+// Why none of many times is dated: the place of the first that is outside the table, or why the table is refused.
+#[derive(Clone, Copy, Debug, PartialEq, Eq)]
+pub enum NotDated {
     OutsideAt(usize),
     Refused(Refusal),
 }
 
-impl AllDated {
-    // Its number in docs/RULES.md, "Answer numbers".
-    pub fn number(self) -> u32
-        ensures { result ≡ number_of_all_dated self }
-    {
+// A time outside has the same number wherever it stands.
+impl Numbered for NotDated {
+    ghost number_of = { number_of_not_dated };
+
+    ghost above_zero = { not_dated_numbers };
+
+    fn number(self) -> u32 {
         match self {
-            AllDated::Dates => 0,
-            AllDated::OutsideAt(_) => Refusal::TimeOutside.number(),
-            AllDated::Refused(why) => why.number(),
+            NotDated::OutsideAt(_) => Refusal::TimeOutside.number(),
+            NotDated::Refused(why) => why.number(),
         }
     }
 }
 
+impl From<Refusal> for NotDated {
+    ghost from_gives = { λ why e. e ≡ Refused why };
+
+    fn from(why: Refusal) -> NotDated {
+        NotDated::Refused(why)
+    }
+}
+
 // Makes the date table of c: cut by both axes whatever rule c carries, every second point from the first on, rounded down.
-// That is 2^level + 1 entries from the start of `table` on; lookups are to be lent these and not the tail behind them.
-pub fn make(table: &mut [u32], c: Conic, level: u32) -> Made
+// That is 2^level + 1 entries from the start of `table` on, as it is answered; lookups are to be lent these and not the tail
+// behind them.
+#[tactic(auto, using(crate::proofs::Answers::made_into, crate::proofs::Forward::never_refused), unfolding(crate::specs::Making::made_answer, crate::specs::Making::made_table))]
+pub fn make(table: &mut [u32], c: Conic, level: u32) -> Result<usize, Refusal>
     ensures made_into { MadeInto level c false table.old result table.new }
-    ensures forward { NeverRefused (Entries (2 ^ level + 1)) level c table.old result table.new }
+    ensures forward { NeverRefused (Ok (2 ^ level + 1)) level c table.old result table.new }
 {
     if Conic::MAX_CUT_LEVEL < level {
-        return Made::Refused(Refusal::LevelTooHigh);
+        return Err(Refusal::LevelTooHigh);
     }
     if table.len() < 2 * making::spans(level) + 2 {
-        return Made::Refused(Refusal::BufferTooShort);
+        return Err(Refusal::BufferTooShort);
     }
     making::store(table, c, level)
 }
 
 // The same of the conic of the first six numbers of `src`, with this weight.
-pub fn make_from(table: &mut [u32], src: &[f32], weight: f32, level: u32) -> Made
+#[tactic(auto, using(crate::proofs::Answers::made_into, crate::proofs::Forward::never_refused_from), unfolding(crate::specs::Making::made_answer, crate::specs::Making::made_table, conic::specs::Source::source_answer))]
+pub fn make_from(table: &mut [u32], src: &[f32], weight: f32, level: u32) -> Result<usize, Refusal>
     ensures made_into { MadeInto level (conic_of src.now weight BothAxes) (short_source src.now)
         table.old result table.new }
     ensures forward { 6 ≤ length src.now
-        → NeverRefused (Entries (2 ^ level + 1)) level (conic_of src.now weight BothAxes) table.old result table.new }
+        → NeverRefused (Ok (2 ^ level + 1)) level (conic_of src.now weight BothAxes) table.old result table.new }
 {
     if level > Conic::MAX_CUT_LEVEL {
-        return Made::Refused(Refusal::LevelTooHigh);
+        return Err(Refusal::LevelTooHigh);
     }
-    match Conic::from_points(src, weight, Rule::BothAxes) {
-        FromPoints::Made(c) => make(table, c, level),
-        FromPoints::Refused(_) => Made::Refused(Refusal::BufferTooShort),
-    }
+    let c = Conic::from_points(src, weight, Rule::BothAxes).map_err(|_| Refusal::BufferTooShort)?;
+    make(table, c, level)
 }
 
 // The date of the recorded time r.
-pub fn date_at(table: &[u32], r: u32) -> Dated
+#[tactic(auto, using(crate::proofs::Dates::dated_at, crate::proofs::Dates::table_refused))]
+pub fn date_at(table: &[u32], r: u32) -> Result<u32, Refusal>
     ensures { DatedAt table.now r result }
 {
-    match lookup::test(table) {
-        Check::Passed => lookup::date(table, r),
-        Check::Refused(why) => Dated::Refused(why),
-    }
+    Table::tested(table)?.date(r)
 }
 
 // Stores the date of each time over it, by one test of the table. Where a time is outside the table, none is.
-pub fn date_all(table: &[u32], times: &mut [u32]) -> AllDated
+#[tactic(auto, using(crate::proofs::Many::all_into, crate::proofs::Many::table_refused))]
+pub fn date_all(table: &[u32], times: &mut [u32]) -> Result<(), NotDated>
     ensures { AllInto table.now times.old result times.new }
 {
-    match lookup::test(table) {
-        Check::Passed => lookup::all(table, times),
-        Check::Refused(why) => AllDated::Refused(why),
-    }
+    Table::tested(table)?.date_all(times)
 }

@@ -1,49 +1,40 @@
-// A table that is lent: its test, and the dates of times in one that passed.
-ghost use Rattle.std.specs.Prelude.{◌≡◌, ◌<◌, ◌≤◌, map, length};
-ghost use Rattle.date_table.specs.declared.lookup.Check.TheVariants.{Passed};
+// A table that is lent: its test, and the dates of times by one that passed.
+ghost use Rattle.std.specs.Prelude.{◌≡◌, ◌<◌, ◌≤◌, Err, IsOk, map, length, position, MatchResult};
 ghost use Rattle.date_table.specs.All.{first_outside, all_answer, all_times};
 ghost use Rattle.date_table.specs.Search.{Bracket, LastNotAbove};
 ghost use Rattle.date_table.specs.Table.{check_of, part_way, outside, date_in, date_of, first_x, last_x};
 
-use super::{AllDated, Dated, Refusal, whole};
-
-// What the test of a table finds.
-#[derive(Clone, Copy)]
-pub enum Check {
-    Passed,
-    Refused(Refusal),
-}
+use super::{NotDated, Refusal, whole};
 
 // Tests a table, in one pass.
-pub fn test(table: &[u32]) -> Check
+#[tactic(auto, using(crate::proofs::Pass::too_large, crate::proofs::Pass::none_large, crate::proofs::Pass::rises_on, crate::proofs::Pass::rises_start, crate::proofs::Pass::rises_end, crate::proofs::Pass::within_end), unfolding(crate::specs::Table::check_of))]
+pub fn test(table: &[u32]) -> Result<(), Refusal>
     ensures { result ≡ check_of table.now }
 {
     let n = table.len();
     if n == 0 {
-        return Check::Refused(Refusal::BufferTooShort);
+        return Err(Refusal::BufferTooShort);
     }
     if n % 2 != 0 {
-        return Check::Refused(Refusal::OddLength);
+        return Err(Refusal::OddLength);
     }
     let mut rises = true;
     let mut x: u32 = 0;
     let mut y: u32 = 0;
-    let mut i: usize = 0;
-    while i < n {
-        let next_x = table[i];
-        let next_y = table[i + 1];
+    for i in 0..n / 2 {
+        let next_x = table[2 * i];
+        let next_y = table[2 * i + 1];
         if (next_x > whole::MAX_ENTRY) | (next_y > whole::MAX_ENTRY) {
-            return Check::Refused(Refusal::EntryOutOfRange);
+            return Err(Refusal::EntryOutOfRange);
         }
         rises = rises & ((x <= next_x) & (y <= next_y));
         x = next_x;
         y = next_y;
-        i += 2;
     }
-    if rises {
-        return Check::Passed;
+    if !rises {
+        return Err(Refusal::TableFalls);
     }
-    Check::Refused(Refusal::TableFalls)
+    Ok(())
 }
 
 // The place of the last entry whose x is not above r, in a table whose first x is not.
@@ -75,78 +66,83 @@ fn part_way(r: u32, x: u32, y: u32, next_x: u32, next_y: u32) -> u32
     y + (part as u32)
 }
 
-// The date of r in a table that passed the test, from its first x to its last.
-fn date_in(table: &[u32], r: u32) -> u32
-    requires checked { check_of table.now ≡ Passed }
-    requires not_before { first_x table.now ≤ r }
-    requires not_behind { r ≤ last_x table.now }
-    ensures { result ≡ date_in table.now r }
-{
-    let n = table.len();
-    let at = last_not_above(table, r);
-    if n - at < 4 {
-        return table[at + 1];
+// A table that passed the test.
+#[derive(Clone, Copy)]
+pub struct Table<'a> {
+    entries: &'a [u32],
+    ghost tested: { IsOk (check_of entries.now) },
+}
+
+impl<'a> Table<'a> {
+    // Refused as the test finds.
+    pub fn tested(entries: &'a [u32]) -> Result<Table<'a>, Refusal>
+        ensures { MatchResult result (λ t. t.entries.now ≡ entries.now) (λ why. check_of entries.now ≡ Err why) }
+    {
+        test(entries)?;
+        Ok(Table { entries })
     }
-    part_way(r, table[at], table[at + 1], table[at + 2], table[at + 3])
-}
 
-// Whether r is before the first x or after the last, in a table that passed the test.
-fn is_outside(table: &[u32], r: u32) -> bool
-    requires { check_of table.now ≡ Passed }
-    ensures { result ≡ outside table.now r }
-{
-    (r < table[0]) | (table[table.len() - 2] < r)
-}
-
-// What a table that passed the test answers of r.
-pub fn date(table: &[u32], r: u32) -> Dated
-    requires { check_of table.now ≡ Passed }
-    ensures { result ≡ date_of table.now r }
-{
-    if is_outside(table, r) {
-        return Dated::Refused(Refusal::TimeOutside);
-    }
-    Dated::Date(date_in(table, r))
-}
-
-// The place of the first time that is outside the table, which passed the test; how many there are where none is.
-fn first_outside(table: &[u32], times: &[u32]) -> usize
-    requires { check_of table.now ≡ Passed }
-    ensures { result ≡ first_outside table.now times.now }
-{
-    let mut i = 0;
-    while i < times.len() {
-        if is_outside(table, times[i]) {
-            return i;
+    // The date of r, from the first x to the last.
+    fn date_in(&self, r: u32) -> u32
+        requires not_before { first_x self.now.entries.now ≤ r }
+        requires not_behind { r ≤ last_x self.now.entries.now }
+        ensures { result ≡ date_in self.now.entries.now r }
+    {
+        let table = self.entries;
+        let n = table.len();
+        let at = last_not_above(table, r);
+        if n - at < 4 {
+            return table[at + 1];
         }
-        i += 1;
+        part_way(r, table[at], table[at + 1], table[at + 2], table[at + 3])
     }
-    i
-}
 
-// Stores the date of each time over it; none is outside the table, which passed the test.
-fn date_each(table: &[u32], times: &mut [u32])
-    requires checked { check_of table.now ≡ Passed }
-    requires inside { length times.old ≤ first_outside table.now times.old }
-    ensures { times.new ≡ map (date_in table.now) times.old }
-{
-    let mut i = 0;
-    while i < times.len() {
-        times[i] = date_in(table, times[i]);
-        i += 1;
+    // Whether r is before the first x or after the last.
+    #[tactic(auto, using(crate::proofs::Found::two_numbers, crate::proofs::Found::outside_by_place))]
+    fn is_outside(&self, r: u32) -> bool
+        ensures { result ≡ outside self.now.entries.now r }
+    {
+        let table = self.entries;
+        (r < table[0]) | (table[table.len() - 2] < r)
     }
-}
 
-// What a table that passed the test answers of many times.
-pub fn all(table: &[u32], times: &mut [u32]) -> AllDated
-    requires { check_of table.now ≡ Passed }
-    ensures value { result ≡ all_answer table.now times.old }
-    ensures times { times.new ≡ all_times table.now times.old }
-{
-    let bad = first_outside(table, times);
-    if bad < times.len() {
-        return AllDated::OutsideAt(bad);
+    // The date of r, unless it is outside.
+    #[tactic(auto, using(crate::proofs::Found::is_outside, crate::proofs::Found::is_date, crate::proofs::Many::inside_low, crate::proofs::Many::inside_high))]
+    pub fn date(&self, r: u32) -> Result<u32, Refusal>
+        ensures { result ≡ date_of self.now.entries.now r }
+    {
+        if self.is_outside(r) {
+            return Err(Refusal::TimeOutside);
+        }
+        Ok(self.date_in(r))
     }
-    date_each(table, times);
-    AllDated::Dates
+
+    // The place of the first time that is outside.
+    fn first_outside(&self, times: &[u32]) -> Option<usize>
+        ensures { result ≡ position (outside self.now.entries.now) times.now }
+    {
+        times.iter().position(|r| self.is_outside(*r))
+    }
+
+    // Stores the date of each time over it; none is outside.
+    fn date_each(&self, times: &mut [u32])
+        requires { length times.old ≤ first_outside self.now.entries.now times.old }
+        ensures { times.new ≡ map (date_in self.now.entries.now) times.old }
+    {
+        for r in times.iter_mut() {
+            *r = self.date_in(*r);
+        }
+    }
+
+    // Stores the date of each time over it, unless one is outside.
+    pub fn date_all(&self, times: &mut [u32]) -> Result<(), NotDated>
+        ensures value { result ≡ all_answer self.now.entries.now times.old }
+        ensures times { times.new ≡ all_times self.now.entries.now times.old }
+    {
+        if let Some(i) = self.first_outside(times) {
+            return Err(NotDated::OutsideAt(i));
+        }
+        self.date_each(times);
+        Ok(())
+    }
 }

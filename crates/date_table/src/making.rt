@@ -6,8 +6,7 @@ ghost use Rattle.point.specs.Numbers.{points_of};
 ghost use Rattle.date_table.specs.Making.{rounded_of, table_room, stored_by, made_answer, made_table};
 ghost use Rattle.date_table.specs.Table.{check_of};
 
-use super::lookup::Check;
-use super::{Made, lookup, whole};
+use super::{Refusal, lookup, whole};
 use conic::{Conic, Rule};
 
 // Of a cut at the highest level: its quads, the numbers of its points, and those of its table.
@@ -26,35 +25,28 @@ pub fn spans(level: u32) -> usize
 }
 
 // Stores every second point, from the first on, rounded down.
+#[tactic(auto, using(crate::proofs::Taken::entries))]
 fn round_into(out: &mut [u32], points: &[f32])
     requires { length (rounded_of (points_of points.now)) ≤ length out.old }
     ensures { out.new ≡ sets out.old 0 (rounded_of (points_of points.now)) }
 {
-    let mut from = 0;
-    let mut to = 0;
-    while from + 1 < points.len() {
+    for i in 0..(points.len() + 2) / 4 {
+        let from = 4 * i;
+        let to = 2 * i;
         out[to] = whole::round_down(points[from]);
         out[to + 1] = whole::round_down(points[from + 1]);
-        from += 4;
-        to += 2;
-    }
-}
-
-// Stores the numbers of `from` at the start.
-fn copy_into(out: &mut [u32], from: &[u32])
-    requires { length from.now ≤ length out.old }
-    ensures { out.new ≡ sets out.old 0 from.now }
-{
-    let mut i = 0;
-    while i < from.len() {
-        out[i] = from[i];
-        i += 1;
     }
 }
 
 // Stores every second point, rounded down to n numbers, in `table`, if they make one. They are rounded into another buffer,
 // since nothing may be stored before all are tested.
-fn store_tested(table: &mut [u32], rounded: &mut [u32], points: &[f32], n: usize) -> Check
+#[tactic(auto, using(crate::proofs::Answers::in_front))]
+fn store_tested(
+    table: &mut [u32],
+    rounded: &mut [u32],
+    points: &[f32],
+    n: usize,
+) -> Result<(), Refusal>
     requires numbers { length (rounded_of (points_of points.now)) ≡ n }
     requires table_room { n ≤ length table.old }
     requires rounded_room { n ≤ length rounded.old }
@@ -63,15 +55,13 @@ fn store_tested(table: &mut [u32], rounded: &mut [u32], points: &[f32], n: usize
 {
     round_into(rounded, points);
     let whole = &rounded[0..n];
-    let found = lookup::test(whole);
-    if let Check::Passed = found {
-        copy_into(table, whole);
-    }
-    found
+    lookup::test(whole)?;
+    table[..n].copy_from_slice(whole);
+    Ok(())
 }
 
 // Stores the table of c, if it has one.
-pub fn store(table: &mut [u32], c: Conic, level: u32) -> Made
+pub fn store(table: &mut [u32], c: Conic, level: u32) -> Result<usize, Refusal>
     requires depth { level ≤ ceiling }
     requires room { table_room level ≤ length table.old }
     ensures value { result ≡ made_answer level (length table.old) false c }
@@ -80,10 +70,8 @@ pub fn store(table: &mut [u32], c: Conic, level: u32) -> Made
     let spans = spans(level);
     let mut cut = [0.0f32; CUT];
     let by_both = Conic::new(c.p0, c.p1, c.p2, c.weight, Rule::BothAxes);
-    conic_cut::chop_into_quads_pow2(&mut cut, by_both, level);
+    let _ = conic_cut::chop_into_quads_pow2(&mut cut, by_both, level); // never refused: there is room at every level
     let mut rounded = [0u32; TABLE];
-    match store_tested(table, &mut rounded, &cut[0..4 * spans + 2], 2 * spans + 2) {
-        Check::Passed => Made::Entries(spans + 1),
-        Check::Refused(why) => Made::Refused(why),
-    }
+    store_tested(table, &mut rounded, &cut[0..4 * spans + 2], 2 * spans + 2)?;
+    Ok(spans + 1)
 }

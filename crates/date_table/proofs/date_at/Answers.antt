@@ -1,13 +1,9 @@
-use Rattle.std.proofs.Common.{sym, ◌∙◌}
-use Rattle.date_table.proofs.Dates.{dated_at, table_refused}
+-- `date_at` meets its contract: refused as the table is. Assumes nothing.
+use Rattle.std.proofs.lemmas.Result.{err_from_is_err_and}
+use Rattle.date_table.proofs.Dates.{table_refused}
 use Rattle.date_table.proofs.date_at.Goals as goal
 
-pub date-requires : goal.date-requires
-date-requires c = sym c.test.ensures ∙ c.in-Passed.is
-
-pub returns-in-Passed : goal.returns-in-Passed
-returns-in-Passed c = dated_at c.date.ensures
-
-pub returns-in-Refused : goal.returns-in-Refused
-returns-in-Refused c =
-    table_refused c.args.table.now c.args.r c.in-Refused.why (sym c.test.ensures ∙ c.in-Refused.is)
+pub returns-in_err-tested : goal.returns-in_err-tested
+returns-in_err-tested c =
+    let exit = err_from_is_err_and c.from_residual.result c.from_residual.ensures.1 in
+    rw (exit.1, exit.2) (table_refused c.args.table.now c.args.r _ c.in_err-tested.ensures)

@@ -1,5 +1,6 @@
 -- `store` meets its contract: what the cut wrote is rounded, tested and stored. Assumes nothing.
 use Rattle.std.proofs.Common.{◌≡◌, ◌+◌, ◌-◌, ◌*◌, false, List, length, take, replicate, ap, ◌∙◌, arith}
+use Rattle.std.proofs.lemmas.Result.{err_from_is_err_and}
 use lib.ListN.{length-replicate}
 use Rattle.float_laws.specs.Formula.{zero32}
 use Rattle.conic.specs.Level.{ceiling}
@@ -26,27 +27,28 @@ points-are c =
     (cut.ensures.cut_into.buffer ∙ ap (λ (d : Conic). cut_buffer chop_by_rule n d false zeros) c.new-by_both.ensures)
     spans.ensures
 
-pub store_tested-requires : goal.store_tested-requires
-store_tested-requires c =
-    let spans = c.spans-spans in
-    let n = c.args.level in
-    let long = ap (λ (ps : List Point). length (rounded_of ps)) (points-are (goal.at.store_tested-requires c).After-chop_into_quads_pow2) ∙ table_length n c.args.c in
-    let most = spans_most n c.requires.depth in
-    record { numbers = omega (arith, long, spans.ensures); table_room = omega (arith, c.requires.room, most, spans.ensures); rounded_room = omega (arith, c.requires.room, most, spans.ensures) }
+pub store_tested-requires-clause-numbers : goal.store_tested-requires-clause-numbers
+store_tested-requires-clause-numbers c =
+    let there = points-are (goal.at.store_tested-requires-clause-numbers c).After-chop_into_quads_pow2 in
+    let long = ap (λ (ps : List Point). length (rounded_of ps)) there ∙ table_length c.args.level c.args.c in
+    omega (arith, long, c.spans-spans.ensures)
 
-pub returns-in-Passed : goal.returns-in-Passed
-returns-in-Passed c =
-    let spans = c.spans-spans in
-    let t = rounded_of (points_of (take (4 * spans.result + 2 - 0) c.chop_into_quads_pow2.new.out)) in
-    let whole = stored_made c.args.level c.args.c c.args.table.now c.requires.depth c.requires.room t c.store_tested.new.table c.store_tested.result
-    (ap rounded_of (points-are (goal.at.returns-in-Passed c).After-chop_into_quads_pow2)) c.store_tested.ensures.value c.store_tested.ensures.table spans.result spans.ensures c.in-Passed.is in
-    record { value = whole.0; table = whole.1 }
-
-pub returns-in-Refused : goal.returns-in-Refused
-returns-in-Refused c =
+pub returns-in_err-store_tested : goal.returns-in_err-store_tested
+returns-in_err-store_tested c =
+    let stored = c.store_tested in
     let t = rounded_of (points_of (take (4 * c.spans-spans.result + 2 - 0) c.chop_into_quads_pow2.new.out)) in
-    let whole = stored_refused c.args.level c.args.c c.args.table.now c.requires.depth c.requires.room t c.store_tested.new.table c.store_tested.result
-    (ap rounded_of (points-are (goal.at.returns-in-Refused c).After-chop_into_quads_pow2)) c.store_tested.ensures.value c.store_tested.ensures.table c.in-Refused.why c.in-Refused.is in
+    let exit = err_from_is_err_and c.from_residual.result c.from_residual.ensures.1 in
+    let whole = stored_refused c.args.level c.args.c c.args.table.now c.requires.depth c.requires.room t stored.new.table stored.result
+    (ap rounded_of (points-are (goal.at.returns-in_err-store_tested c).After-chop_into_quads_pow2)) stored.ensures.value stored.ensures.table _ c.in_err-store_tested.was in
+    record { value = rw (exit.1, exit.2) whole.0; table = whole.1 }
+
+pub returns : goal.returns
+returns c =
+    let spans = c.spans-spans in
+    let stored = c.store_tested in
+    let t = rounded_of (points_of (take (4 * spans.result + 2 - 0) c.chop_into_quads_pow2.new.out)) in
+    let whole = stored_made c.args.level c.args.c c.args.table.now c.requires.depth c.requires.room t stored.new.table stored.result
+    (ap rounded_of (points-are (goal.at.returns c).After-chop_into_quads_pow2)) stored.ensures.value stored.ensures.table spans.result spans.ensures c.in_ok-store_tested.was in
     record { value = whole.0; table = whole.1 }
 
 pub slice_bounds-store_tested-end-2 : goal.slice_bounds-store_tested-end-2

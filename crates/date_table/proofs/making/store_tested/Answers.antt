@@ -1,33 +1,15 @@
--- `store_tested` meets its contract: the numbers at the front of the buffer are the rounded ones. Assumes nothing.
-use Rattle.std.proofs.Common.{◌≡◌, ◌-◌, take, sym, ap, ◌∙◌}
-use lib.Seq.{sets}
+-- `store_tested` meets its contract: the numbers at the front of the buffer are the rounded ones, and these are copied. Assumes nothing.
+use Rattle.std.proofs.Common.{ℕ, List, ◌++◌, drop, sym, ap, ◌∙◌}
 use Rattle.point.specs.Numbers.{points_of}
-use Rattle.date_table.specs.declared.lookup.Check.{Check}
-use Rattle.date_table.specs.Making.{rounded_of, stored_by}
-use Rattle.date_table.specs.Table.{check_of}
+use Rattle.conic_cut.proofs.Lists.{sets_whole}
+use Rattle.date_table.specs.Making.{rounded_of}
 use Rattle.date_table.proofs.Answers.{in_front}
 use Rattle.date_table.proofs.making.store_tested.Goals as goal
-use Rattle.date_table.proofs.making.store_tested.Goals.{After-test-found}
 
--- the numbers at the front of the buffer are the rounded ones
-whole_is : (c : After-test-found) → let c = c in
-    take (c.args.n - 0) c.round_into.new.out ≡ rounded_of (points_of c.args.points.now)
-whole_is c =
-    let into = c.round_into in
-    in_front (rounded_of (points_of c.args.points.now)) into.new.out c.args.rounded.now c.args.n into.ensures c.requires.numbers c.requires.rounded_room
-
-pub returns-in-Passed : goal.returns-in-Passed
-returns-in-Passed c =
+pub returns-clause-table : goal.returns-clause-table
+returns-clause-table c =
     let a = c.args in
-    let front = whole_is (goal.at.returns-in-Passed c).After-test-found in
     let t = rounded_of (points_of a.points.now) in
-    record {
-      value = c.test-found.ensures ∙ ap check_of front;
-      table = c.copy_into.ensures ∙ ap (sets a.table.now 0) front ∙ ap (λ (k : Check). stored_by k a.table.now t) (sym c.in-Passed.is);
-    }
-
-pub returns-in_default : goal.returns-in_default
-returns-in_default c =
-    let told = c.in_default.is in
-    let t = rounded_of (points_of c.args.points.now) in
-    record { value = c.test-found.ensures ∙ ap check_of (whole_is (goal.at.returns-in_default c).After-test-found); table = ap (λ (k : Check). stored_by k c.args.table.now t) (sym told) }
+    let front = in_front t c.round_into.new.out a.rounded.now a.n c.round_into.ensures c.requires.numbers c.requires.rounded_room in
+    ap (λ (m : List ℕ). m ++ drop a.n a.table.now) (c.copy_from_slice.ensures.after ∙ front)
+    ∙ sym (sets_whole t a.table.now a.n c.requires.numbers c.requires.table_room)
