@@ -1,31 +1,32 @@
 -- Laws on a pad's line: two words byte by byte, the words behind the first, and a number by its last digit. Assumes nothing.
-use Rattle.std.proofs.Common.{◌≡◌, ℕ, zero, suc, ◌+◌, ◌-◌, ◌*◌, ◌<◌, ◌≤◌, Bool, true, false, cond, ◌&&◌, eqb, ltb, leb, List, [], ◌∷◌, ◌++◌, length, get_or, take, drop, sym, refl, ap, ◌∙◌, true≢false, arith, take_all, drop-cons, take-suc, ltb-true, eq-eqb, ne_eqb, leb-true}
-use mathlib.Core.Bool.{and-false}
+use Rattle.std.proofs.Common.{◌≡◌, ℕ, zero, suc, ◌+◌, ◌-◌, ◌*◌, ◌<◌, ◌≤◌, Bool, true, cond, ◌&&◌, eqb, ltb, leb, List, [], ◌∷◌, ◌++◌, length, get_or, take, drop, sym, refl, ap, ◌∙◌, arith, take_all, take-suc, ltb-true, leb-true}
+use lib.Pointwise.{pointwise}
 use Rattle.bridge_lines.specs.Decimal.{all_digits, is_whole, size_after, size_of}
+use Rattle.std.specs.Prelude.{Option, Some, None, Ok}
+use Rattle.std.specs.Option.{ok_or}
+use Rattle.bridge_lines.specs.declared.Bridge.{Bridge}
+use Rattle.bridge_lines.specs.declared.Fault.TheVariants.{TooFew}
 use Rattle.bridge_lines.specs.Kinds.{is_of}
-use Rattle.bridge_lines.specs.Pad.{same}
+use Rattle.bridge_lines.specs.Pad.{same, bridge_or}
 use Rattle.bridge_lines.specs.Words.{is_digit, before, words_of}
 use Rattle.bridge_lines.specs.declared.scan.Kind.TheVariants.{Blank, NoBlank}
 use Rattle.bridge_lines.proofs.Bytes.{rest}
+use Rattle.bridge_lines.proofs.Sizes.{both}
 use Rattle.bridge_lines.proofs.Split.{Stands, start, other_words}
 
 -- ---- two words
-
-pub other_length : (l m : List ℕ) → (length l ≡ length m → ⊥) → same l m ≡ false
+same_is : (l m : List ℕ) → pointwise eqb l m ≡ same l m
 unfolding same
-other_length [] [] h = absurd (h refl)
-other_length [] (c ∷ m) h = refl
-other_length (b ∷ l) [] h = refl
-other_length (b ∷ l) (c ∷ m) h = rw (other_length l m (λ e. h (ap suc e))) (and-false (eqb b c))
+same_is [] [] = refl
+same_is [] (c ∷ m) = refl
+same_is (b ∷ l) [] = refl
+same_is (b ∷ l) (c ∷ m) = ap (λ (t : Bool). eqb b c && t) (same_is l m)
 
-module _ (l m : List ℕ) (i : ℕ) (h : i < length l) (g : i < length m) where
-  pub differ : (get_or l i 0 ≡ get_or m i 0 → ⊥) → same (drop i l) (drop i m) ≡ false
-  unfolding same
-  differ n = rw (drop-cons l i 0 h, drop-cons m i 0 g, ne_eqb (get_or l i 0) (get_or m i 0) n)
-
-  pub agree : get_or l i 0 ≡ get_or m i 0 → same (drop i l) (drop i m) ≡ same (drop (suc i) l) (drop (suc i) m)
-  unfolding same
-  agree e = rw (drop-cons l i 0 h, drop-cons m i 0 g, eq-eqb (get_or l i 0) (get_or m i 0) e)
+-- whether the word with k words before it is that one, by what was asked of it
+pub named : (ws : List (List ℕ)) (k : ℕ) (name : List ℕ) (t : Bool) {w n : List ℕ} {r : Bool} → w ≡ get_or ws k [] → n ≡ name → r ≡ pointwise eqb w n → r ≡ t
+    → same (get_or ws k []) name ≡ t
+named ws k name t {w} {n} e f h is =
+    sym (same_is (get_or ws k []) name) ∙ sym (ap (λ (x : List ℕ). pointwise eqb x name) e) ∙ sym (ap (pointwise eqb w) f) ∙ sym h ∙ is
 
 -- ---- the words behind the first
 
@@ -37,11 +38,6 @@ behind t i e h f =
     (sym (other_words (drop i t) s.0) ∙ ap (λ (ws : List (List ℕ)). drop 1 ws) s.1)
 
 -- ---- a number by its last digit
-
-both : (s t : Bool) → (s && t) ≡ true → (s ≡ true) × (t ≡ true)
-both true true e = (refl, refl)
-both true false e = absurd (true≢false (sym e))
-both false t e = absurd (true≢false (sym e))
 
 digit_at : (l : List ℕ) (i : ℕ) → all_digits l ≡ true → i < length l → is_digit (get_or l i 0) ≡ true
 unfolding all_digits
@@ -81,3 +77,9 @@ module _ (w : List ℕ) (e : is_whole w ≡ true) where
       ap size_of ends_so
       ∙ after 0 (take (length w - 1) w) (get_or w (length w - 1) 0 ∷ [])
       ∙ last_by (size_of (take (length w - 1) w))
+
+-- ---- a bridge has to have numbers
+pub first_number : (b : Option Bridge) → ok_or b (record { place = 1; why = TooFew }) ≡ bridge_or (Ok b)
+unfolding bridge_or
+first_number (Some b) = refl
+first_number None = refl

@@ -1,5 +1,5 @@
 -- Laws on the number that digits make: more digits make no smaller one, so that it can be held at a bound. Assumes nothing.
-use Rattle.std.proofs.Common.{◌≡◌, ℕ, zero, suc, ◌+◌, ◌-◌, ◌*◌, ◌^◌, ◌<◌, ◌≤◌, min, Bool, true, false, cond, ◌&&◌, ltb, leb, List, [], ◌∷◌, length, get_or, drop, sym, refl, true≢false, le_trans, lt_of_le_of_lt, arith, length-drop, le-ltb, lt-ltb, le-leb, leb-false, leb-true}
+use Rattle.std.proofs.Common.{◌≡◌, ℕ, ◌+◌, ◌-◌, ◌*◌, ◌<◌, ◌≤◌, min, Bool, true, false, cond, ◌&&◌, ltb, leb, List, [], ◌∷◌, length, drop, sym, refl, true≢false, le_trans, lt_of_le_of_lt, arith, length-drop, le-ltb, lt-ltb, le-leb, leb-false, leb-true}
 use native.Mathlib.Nat.{min-eq_left, min-eq_right}
 use borrow.Author.Tests.{lt-leb}
 use Rattle.bridge_lines.specs.Words.{is_digit}
@@ -41,21 +41,21 @@ limit_below place = limit_by (ltb place 7) (ltb place 8)
 pub held : (m n : ℕ) (l : List ℕ) → min (size_after (min n m) l) m ≡ min (size_after n l) m
 held m n l = held_by (leb n m) m n l refl
 
-both_by : (s t : Bool) → (s && t) ≡ true → (s ≡ true) × (t ≡ true)
-both_by true true e = (refl, refl)
-both_by true false e = absurd (true≢false (sym e))
-both_by false t e = absurd (true≢false (sym e))
+pub both : (s t : Bool) → (s && t) ≡ true → (s ≡ true) × (t ≡ true)
+both true true e = (refl, refl)
+both true false e = absurd (true≢false (sym e))
+both false t e = absurd (true≢false (sym e))
 
 -- in range nothing is held
 pub ranged : (place : ℕ) (w : List ℕ) → in_range place w ≡ true → (size_of w < 1000000000) × (length (decimals w) ≤ 6)
 ranged place w e =
     let b : (leb (size_of w) (limit_of place) ≡ true) × (leb (length (decimals w)) 6 ≡ true) =
-    both_by (leb (size_of w) (limit_of place)) (leb (length (decimals w)) 6) e in (
+    both (leb (size_of w) (limit_of place)) (leb (length (decimals w)) 6) e in (
       lt_of_le_of_lt (leb-true (size_of w) (limit_of place) b.0) (limit_below place),
       leb-true (length (decimals w)) 6 b.1,
     )
 
--- ---- the sign and the scale
+-- ---- the sign
 
 signed_by : (t : Bool) (w : List ℕ) → is_negative w ≡ t → 0 < length w → ltb (length (cond t (drop 1 w) w)) (length w) ≡ t
 signed_by true w e h = lt-ltb (length (drop 1 w)) (length w) (omega (arith, length-drop 1 w))
@@ -65,16 +65,3 @@ signed_by false w e h = le-ltb (length w) (length w) (omega arith)
 pub signed : (w : List ℕ) → ltb (length (unsigned w)) (length w) ≡ is_negative w
 signed [] = refl
 signed (b ∷ w) = signed_by (is_negative (b ∷ w)) (b ∷ w) refl (omega arith)
-
-pub powers : (n : ℕ) → n ≤ 6 → get_or (1 ∷ 10 ∷ 100 ∷ 1000 ∷ 10000 ∷ 100000 ∷ 1000000 ∷ []) n 0 ≡ 10 ^ n
-powers zero h = refl
-powers (suc zero) h = refl
-powers (suc (suc zero)) h = refl
-powers (suc (suc (suc zero))) h = refl
-powers (suc (suc (suc (suc zero)))) h = refl
-powers (suc (suc (suc (suc (suc zero))))) h = refl
-powers (suc (suc (suc (suc (suc (suc zero)))))) h = refl
-powers (suc (suc (suc (suc (suc (suc (suc n))))))) h = absurd (none n h)
-  where
-    none : (n : ℕ) → suc (suc (suc (suc (suc (suc (suc n)))))) ≤ 6 → ⊥
-    none n h = omega arith

@@ -1,12 +1,12 @@
 -- What a line comes to, by its words (docs/RULES.md, "Bridges as text"). Definitions only.
-use Rattle.std.specs.Prelude.{ℕ, ◌+◌, Bool, cond, ◌&&◌, List, [], ◌∷◌, length, ◌==◌, nat_le, nat_lt, slice_index_or, Float}
+use Rattle.std.specs.Prelude.{ℕ, ◌+◌, Bool, cond, ◌&&◌, List, [], ◌∷◌, length, ◌==◌, nat_le, nat_lt, slice_index_or, Float, Option, Some, None, Result, Ok, Err}
 use Rattle.point.specs.Point.{point_from}
 use Rattle.conic.specs.declared.Rule.TheVariants.{BothAxes}
 use Rattle.conic.specs.Chop.{conic_from}
+use Rattle.bridge_lines.specs.declared.Bad.{Bad}
 use Rattle.bridge_lines.specs.declared.Bridge.{Bridge}
+use Rattle.bridge_lines.specs.declared.Fault.{Fault}
 use Rattle.bridge_lines.specs.declared.Fault.TheVariants.{NoNumber, OutOfRange, TooFew, TooMany, TooLong}
-use Rattle.bridge_lines.specs.declared.Line.{Line}
-use Rattle.bridge_lines.specs.declared.Line.TheVariants.{Good, Blank, Bad}
 use Rattle.bridge_lines.specs.Decimal.{unsigned, is_whole, is_decimal, decimals, size_of, value_of}
 use Rattle.bridge_lines.specs.Words.{is_hash, before, words_of}
 
@@ -23,14 +23,18 @@ limit_of place = cond (nat_lt place 7) 16777216 (cond (nat_lt place 8) 9999999 9
 abbrev pub in_range : ℕ → List ℕ → Bool
 in_range place w = nat_le (size_of w) (limit_of place) && nat_le (length (decimals w)) 6
 
--- the words from a place on: the first thing that is wrong, or else `good`; a line without words is blank
-unfoldable pub judged : ℕ → List (List ℕ) → Line → Line
-judged place [] good = cond (nat_lt 8 place) good (cond (place == 1) Blank (Bad place TooFew))
+-- what is wrong, and the place of the word
+abbrev pub bad : {A : Type 0} → ℕ → Fault → Result A Bad
+bad place why = Err (record { place = place; why = why })
+
+-- the words from a place on: the first thing that is wrong, or else `good`; a line without words is blank, and no bridge
+unfoldable pub judged : ℕ → List (List ℕ) → Bridge → Result (Option Bridge) Bad
+judged place [] good = cond (nat_lt 8 place) (Ok (Some good)) (cond (place == 1) (Ok None) (bad place TooFew))
 judged place (w ∷ ws) good =
-    cond (nat_lt 8 place) (Bad place TooMany)
+    cond (nat_lt 8 place) (bad place TooMany)
     (cond (has_form place w)
-    (cond (in_range place w) (judged (place + 1) ws good) (Bad place OutOfRange))
-    (Bad place NoNumber))
+    (cond (in_range place w) (judged (place + 1) ws good) (bad place OutOfRange))
+    (bad place NoNumber))
 
 -- x0 y0 x1 y1 x2 y2 weight level; a bridge is read by x, so that its rule is that of both axes
 abbrev pub bridge_of : List (List ℕ) → Bridge
@@ -41,11 +45,11 @@ bridge_of ws =
       level = size_of (slice_index_or ws 7 []);
     }
 
-unfoldable pub line_of : List (List ℕ) → Line
+unfoldable pub line_of : List (List ℕ) → Result (Option Bridge) Bad
 unfolding judged
-line_of ws = judged 1 ws (Good (bridge_of ws))
+line_of ws = judged 1 ws (bridge_of ws)
 
 -- a line is its words up to the first `#`
-unfoldable pub read_of : List ℕ → Line
+unfoldable pub read_of : List ℕ → Result (Option Bridge) Bad
 unfolding line_of
-read_of line = cond (nat_lt 256 (length line)) (Bad 1 TooLong) (line_of (words_of (before is_hash line)))
+read_of line = cond (nat_lt 256 (length line)) (bad 1 TooLong) (line_of (words_of (before is_hash line)))

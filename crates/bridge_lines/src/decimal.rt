@@ -9,20 +9,17 @@ use super::scan::Kind;
 pub fn without_sign(w: &[u8]) -> &[u8]
     ensures { result.now ≡ unsigned w.now }
 {
-    if w.len() == 0 {
-        return w;
+    match w {
+        [b'-', rest @ ..] => rest,
+        _ => w,
     }
-    if w[0] == b'-' {
-        return &w[1..];
-    }
-    w
 }
 
 // Whether w is digits alone, and at least one.
 pub fn is_whole(w: &[u8]) -> bool
     ensures { result ≡ is_whole w.now }
 {
-    (0 < w.len()) & (scan::first(w, 0, Kind::NoDigit) == w.len())
+    !w.is_empty() && w.iter().all(|b| b.is_ascii_digit())
 }
 
 // The bytes behind the point.
@@ -49,10 +46,7 @@ fn with_digit(n: u32, b: u8) -> u32
     requires { n ≤ 1000000000 }
     ensures { result ≡ min (size_after n (b ∷ [])) 1000000000 }
 {
-    if b < b'0' {
-        return n;
-    }
-    if b > b'9' {
+    if !b.is_ascii_digit() {
         return n;
     }
     if n < 100000000 {
@@ -67,10 +61,8 @@ pub fn size(w: &[u8]) -> u32
     ensures { result ≡ min (size_of w.now) 1000000000 }
 {
     let mut n = 0;
-    let mut i = 0;
-    while i < w.len() {
-        n = with_digit(n, w[i]);
-        i += 1;
+    for b in w {
+        n = with_digit(n, *b);
     }
     n
 }

@@ -15,13 +15,20 @@ mod scan;
 
 // What is wrong with a line: a word that is no number of the kind that its place takes; a number that is too large or
 // has too many decimals; too few words, eight for a bridge and one for a stroke; too many; more bytes than a line may have.
-#[derive(Clone, Copy)]
+#[derive(Clone, Copy, Debug, PartialEq, Eq)]
 pub enum Fault {
     NoNumber,
     OutOfRange,
     TooFew,
     TooMany,
     TooLong,
+}
+
+// A bad line: the place of the word that is wrong, missing or too much, from 1 on, and what is wrong.
+#[derive(Clone, Copy, Debug, PartialEq, Eq)]
+pub struct Bad {
+    pub place: u32,
+    pub why: Fault,
 }
 
 // A bridge, and the level that it is to be cut at.
@@ -31,23 +38,12 @@ pub struct Bridge {
     pub level: u32,
 }
 
-// What a line comes to. A bad line names the place of the word that is wrong, missing or too much, from 1 on.
-#[derive(Clone, Copy)]
-pub enum Line {
-    Good(Bridge),
-    Blank,
-    Bad(u32, Fault),
-}
-
-// What a line of a pad's file comes to. A bad bridge or stroke names the place of the number that is wrong, missing or too
-// much, from 1 on.
+// What a line of a pad's file comes to. The places of a bad one are those of the numbers behind its first word.
 #[derive(Clone, Copy)]
 pub enum PadLine {
     Blank,
-    Bridge(Bridge),
-    BadBridge(u32, Fault),
-    Stroke(u32),
-    BadStroke(u32, Fault),
+    Bridge(Result<Bridge, Bad>),
+    Stroke(Result<u32, Bad>),
     // Another first word, and eight words or more.
     MaybeBridge,
     // Another first word, and fewer.
@@ -55,14 +51,17 @@ pub enum PadLine {
 }
 
 // Reads a line without its newline: `x0 y0 x1 y1 x2 y2 weight level`, with blanks between the numbers, and a comment
-// from the first `#` on. Coordinates are whole and at most 2^24 in size; the weight may have a point, and comes to at
+// from the first `#` on. A blank line is none. Coordinates are whole and at most 2^24 in size; the weight may have a point, and comes to at
 // most 7 digits with at most 6 after the point; the level is whole, has no sign and comes to at most 9 digits. Zeros
 // in front do not count.
-pub fn read(line: &[u8]) -> Line
+pub fn read(line: &[u8]) -> Result<Option<Bridge>, Bad>
     ensures { result ≡ read_of line.now }
 {
     if line.len() > 256 {
-        return Line::Bad(1, Fault::TooLong);
+        return Err(Bad {
+            place: 1,
+            why: Fault::TooLong,
+        });
     }
     let end = scan::first(line, 0, Kind::Hash);
     reading::line(&line[0..end])

@@ -1,29 +1,12 @@
 // A line of a pad's file, by its first word.
 ghost use Rattle.std.specs.Prelude.{◌≡◌, min, true, drop};
 ghost use Rattle.bridge_lines.specs.Decimal.{is_whole, size_of};
-ghost use Rattle.bridge_lines.specs.Pad.{same, bridge_or, stroke_of, other_of, pad_line_of, too_long_of};
+ghost use Rattle.bridge_lines.specs.Pad.{bridge_or, stroke_of, other_of, pad_line_of, too_long_of};
 ghost use Rattle.bridge_lines.specs.Reading.{line_of};
 ghost use Rattle.bridge_lines.specs.Words.{words_of};
 
 use super::scan::Kind;
-use super::{Fault, Line, PadLine, decimal, reading, scan};
-
-// Whether a word is this one, byte by byte.
-fn is_word(w: &[u8], name: &[u8]) -> bool
-    ensures { result ≡ same w.now name.now }
-{
-    if w.len() != name.len() {
-        return false;
-    }
-    let mut i = 0;
-    while i < w.len() {
-        if w[i] != name[i] {
-            return false;
-        }
-        i += 1;
-    }
-    true
-}
+use super::{Bad, Bridge, Fault, PadLine, decimal, reading, scan};
 
 // What stands behind the first word.
 fn past_word(text: &[u8]) -> &[u8]
@@ -35,14 +18,13 @@ fn past_word(text: &[u8]) -> &[u8]
 }
 
 // What a bridge's numbers come to.
-fn bridge(text: &[u8]) -> PadLine
+fn bridge(text: &[u8]) -> Result<Bridge, Bad>
     ensures { result ≡ bridge_or (line_of (words_of text.now)) }
 {
-    match reading::line(text) {
-        Line::Good(b) => PadLine::Bridge(b),
-        Line::Blank => PadLine::BadBridge(1, Fault::TooFew),
-        Line::Bad(place, why) => PadLine::BadBridge(place, why),
-    }
+    reading::line(text)?.ok_or(Bad {
+        place: 1,
+        why: Fault::TooFew,
+    })
 }
 
 // The number that the digits of w make, where it is below 2^32, and else one that is not. All but the last digit are held
@@ -56,31 +38,43 @@ fn time(w: &[u8]) -> u64
 }
 
 // What a stroke's words come to.
-fn stroke(text: &[u8]) -> PadLine
+fn stroke(text: &[u8]) -> Result<u32, Bad>
     ensures { result ≡ stroke_of (words_of text.now) }
 {
     let w = scan::word(text, 0);
-    if w.len() == 0 {
-        return PadLine::BadStroke(1, Fault::TooFew);
+    if w.is_empty() {
+        return Err(Bad {
+            place: 1,
+            why: Fault::TooFew,
+        });
     }
     if !decimal::is_whole(w) {
-        return PadLine::BadStroke(1, Fault::NoNumber);
+        return Err(Bad {
+            place: 1,
+            why: Fault::NoNumber,
+        });
     }
     let r = time(w);
     if r > 4294967295 {
-        return PadLine::BadStroke(1, Fault::OutOfRange);
+        return Err(Bad {
+            place: 1,
+            why: Fault::OutOfRange,
+        });
     }
-    if scan::word(text, 1).len() > 0 {
-        return PadLine::BadStroke(2, Fault::TooMany);
+    if !scan::word(text, 1).is_empty() {
+        return Err(Bad {
+            place: 2,
+            why: Fault::TooMany,
+        });
     }
-    PadLine::Stroke(r as u32)
+    Ok(r as u32)
 }
 
 // What a line with another first word comes to: one that is as long as a bridge may have been one.
 fn other(text: &[u8]) -> PadLine
     ensures { result ≡ other_of (words_of text.now) }
 {
-    if scan::word(text, 7).len() > 0 {
+    if !scan::word(text, 7).is_empty() {
         return PadLine::MaybeBridge;
     }
     PadLine::OtherWord
@@ -91,14 +85,14 @@ pub fn line(text: &[u8]) -> PadLine
     ensures { result ≡ pad_line_of (words_of text.now) }
 {
     let w = scan::word(text, 0);
-    if w.len() == 0 {
+    if w.is_empty() {
         return PadLine::Blank;
     }
-    if is_word(w, b"bridge") {
-        return bridge(past_word(text));
+    if w == b"bridge".as_slice() {
+        return PadLine::Bridge(bridge(past_word(text)));
     }
-    if is_word(w, b"stroke") {
-        return stroke(past_word(text));
+    if w == b"stroke".as_slice() {
+        return PadLine::Stroke(stroke(past_word(text)));
     }
     other(text)
 }
@@ -107,8 +101,12 @@ pub fn line(text: &[u8]) -> PadLine
 pub fn too_long(text: &[u8]) -> PadLine
     ensures { result ≡ too_long_of (words_of text.now) }
 {
-    if is_word(scan::word(text, 0), b"stroke") {
-        return PadLine::BadStroke(1, Fault::TooLong);
+    let bad = Bad {
+        place: 1,
+        why: Fault::TooLong,
+    };
+    if scan::word(text, 0) == b"stroke".as_slice() {
+        return PadLine::Stroke(Err(bad));
     }
-    PadLine::BadBridge(1, Fault::TooLong)
+    PadLine::Bridge(Err(bad))
 }

@@ -4,7 +4,7 @@ ghost use Rattle.bridge_lines.specs.Reading.{has_form, limit_of, in_range, bridg
 ghost use Rattle.bridge_lines.specs.Decimal.{value_of};
 ghost use Rattle.bridge_lines.specs.Words.{words_of};
 
-use super::{Bridge, Fault, Line, decimal, scan};
+use super::{Bad, Bridge, Fault, decimal, scan};
 use conic::{Conic, Rule};
 use point::Point;
 
@@ -41,9 +41,6 @@ fn in_range(place: u32, w: &[u8]) -> bool
     (decimal::size(w) <= limit(place)) & (decimal::past_point(w).len() <= 6)
 }
 
-// Ten to the power of each number of decimals.
-const POWERS: [u32; 7] = [1, 10, 100, 1000, 10000, 100000, 1000000];
-
 // The value of the word with k words before it, which is in range: both numbers are floats exactly, so it is rounded once.
 fn value(text: &[u8], k: u32) -> f32
     requires { in_range (k + 1) (slice_index_or (words_of text.now) k []) ≡ true }
@@ -51,7 +48,8 @@ fn value(text: &[u8], k: u32) -> f32
 {
     let w = scan::word(text, k);
     let size = std::num::nearest_u32_to_f32(decimal::size(w));
-    let scale = std::num::nearest_u32_to_f32(POWERS[decimal::past_point(w).len()]);
+    let decimals = decimal::past_point(w).len() as u32;
+    let scale = std::num::nearest_u32_to_f32(10u32.pow(decimals));
     let q = size / scale;
     if decimal::without_sign(w).len() < w.len() {
         -q
@@ -88,29 +86,39 @@ fn bridge(text: &[u8]) -> Bridge
 }
 
 // What a line without its comment comes to.
-pub fn line(text: &[u8]) -> Line
+pub fn line(text: &[u8]) -> Result<Option<Bridge>, Bad>
     ensures { result ≡ line_of (words_of text.now) }
 {
-    let mut k = 0;
-    while k < 8 {
+    for k in 0..8 {
         let place = k + 1;
         let w = scan::word(text, k);
-        if w.len() == 0 {
+        if w.is_empty() {
             if k == 0 {
-                return Line::Blank;
+                return Ok(None);
             }
-            return Line::Bad(place, Fault::TooFew);
+            return Err(Bad {
+                place,
+                why: Fault::TooFew,
+            });
         }
         if !has_form(place, w) {
-            return Line::Bad(place, Fault::NoNumber);
+            return Err(Bad {
+                place,
+                why: Fault::NoNumber,
+            });
         }
         if !in_range(place, w) {
-            return Line::Bad(place, Fault::OutOfRange);
+            return Err(Bad {
+                place,
+                why: Fault::OutOfRange,
+            });
         }
-        k = place;
     }
-    if scan::word(text, 8).len() > 0 {
-        return Line::Bad(9, Fault::TooMany);
+    if !scan::word(text, 8).is_empty() {
+        return Err(Bad {
+            place: 9,
+            why: Fault::TooMany,
+        });
     }
-    Line::Good(bridge(text))
+    Ok(Some(bridge(text)))
 }

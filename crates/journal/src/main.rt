@@ -21,13 +21,6 @@ fn file(rt: &(impl Files + Print + Eprint), path: &str) -> io::Result<()> {
     }
 }
 
-fn is_dash(path: &[u8]) -> bool {
-    if path.len() == 1 {
-        return path[0] == b'-';
-    }
-    false
-}
-
 // Prints the journal of standard input.
 fn standard_input(rt: &(impl Input + Print + Eprint)) -> io::Result<()> {
     window::print(rt, &mut rt.reader(), "-")
@@ -35,7 +28,7 @@ fn standard_input(rt: &(impl Input + Print + Eprint)) -> io::Result<()> {
 
 // Prints the journal that an argument names. The name of a file is text: other bytes are told, escaped.
 fn given(rt: &(impl Files + Input + Print + Eprint), name: &[u8]) -> io::Result<()> {
-    if is_dash(name) {
+    if name == b"-".as_slice() {
         return standard_input(rt);
     }
     match str::from_utf8(name) {

@@ -1,13 +1,22 @@
 // The lines of a journal as text.
-ghost use Rattle.std.specs.Prelude.{◌≡◌, ◌+◌, ◌*◌, ◌<◌, ◌≤◌, length};
-ghost use Rattle.std.proofs.lemmas.List.Edits.{sets};
-ghost use Rattle.journal.specs.Text.{digit_of, digits_of, hex_of, line_of};
+ghost use Rattle.std.specs.Prelude.{◌≡◌, ◌+◌, ◌*◌, ◌<◌, ◌≤◌, ◌++◌, [], length};
+ghost use Rattle.arrayvec.specs.ArrayVec.{array_vec_len};
+ghost use Rattle.records.specs.Kinds.{number_of_kind};
+ghost use Rattle.journal.specs.Text.{digit_of, hex_of, line_of};
 
-use records::Refusal;
+use answers::Numbered;
+use arrayvec::ArrayVec;
+use records::{Kind, Refusal};
 use std::fmt::Display;
 use std::io;
 
+// How many bytes a payload has at most, a conic's, and the line of such a record.
+const PAYLOAD: usize = 28;
+
+const ROOM: usize = 2 * PAYLOAD + 3;
+
 // A hexadecimal digit, in upper case.
+#[tactic(auto, unfolding(crate::specs::Text::digit_of))]
 fn digit(n: u8) -> u8
     requires { n < 16 }
     ensures { result ≡ digit_of n }
@@ -15,51 +24,35 @@ fn digit(n: u8) -> u8
     if n < 10 { 48 + n } else { 55 + n }
 }
 
-// Stores the two digits of a byte.
-fn put_byte(out: &mut [u8], at: usize, b: u8)
-    requires { at + 2 ≤ length out.old }
-    ensures { out.new ≡ sets out.old at (digits_of b) }
+// Appends the two digits of each byte.
+fn push_hex(line: &mut ArrayVec<u8, ROOM>, bytes: &[u8])
+    requires { array_vec_len line.old + 2 * length bytes.now ≤ 59 }
+    ensures items { line.new.items ≡ line.old.items ++ hex_of bytes.now }
+    ensures len { array_vec_len line.new ≡ array_vec_len line.old + 2 * length bytes.now }
 {
-    out[at] = digit(b / 16);
-    out[at + 1] = digit(b % 16);
-}
-
-// Stores the digits of each byte.
-fn put_hex(out: &mut [u8], at: usize, bytes: &[u8])
-    requires { at + 2 * length bytes.now ≤ length out.old }
-    ensures { out.new ≡ sets out.old at (hex_of bytes.now) }
-{
-    let mut next = at;
-    let mut i = 0;
-    while i < bytes.len() {
-        put_byte(out, next, bytes[i]);
-        next += 2;
-        i += 1;
+    for b in bytes {
+        line.push(digit(*b / 16));
+        line.push(digit(*b % 16));
     }
 }
 
-// Stores the line of a record: its kind, a space, its payload in hexadecimal, and a newline. How long it is.
-fn put_line(out: &mut [u8], kind: u32, payload: &[u8]) -> usize
-    requires { (kind < 10) × (2 * length payload.now + 3 ≤ length out.old) }
-    ensures value { result ≡ length (line_of kind payload.now) }
-    ensures line { out.new ≡ sets out.old 0 (line_of kind payload.now) }
+// The line of a record: its kind, a space, its payload in hexadecimal, and a newline.
+fn line(kind: Kind, payload: &[u8]) -> ArrayVec<u8, ROOM>
+    requires { length payload.now ≤ 28 }
+    ensures { result.items ≡ line_of (number_of_kind kind) payload.now }
 {
-    let end = 2 * payload.len() + 2;
-    out[0] = digit(kind as u8);
-    out[1] = b' ';
-    put_hex(out, 2, payload);
-    out[end] = b'\n';
-    end + 1
+    let mut line = ArrayVec::new();
+    line.push(digit(kind.number() as u8));
+    line.push(b' ');
+    push_hex(&mut line, payload);
+    line.push(b'\n');
+    line
 }
 
-// Writes the line of a record; the longest has the 28 bytes of a conic.
-pub fn record(rt: &impl Print, kind: u32, payload: &[u8]) -> io::Result<()> {
-    let mut room = [0u8; 59];
-    if kind < 10 {
-        if payload.len() <= 28 {
-            let n = put_line(&mut room, kind, payload);
-            rt.write_all(&room[..n])?;
-        }
+// Writes the line of a record.
+pub fn record(rt: &impl Print, kind: Kind, payload: &[u8]) -> io::Result<()> {
+    if payload.len() <= PAYLOAD {
+        rt.write_all(&line(kind, payload))?;
     }
     Ok(())
 }

@@ -1,87 +1,54 @@
 // A journal's bytes, gathered record by record. A record is judged each time that a byte of it comes: until it is whole or refused
 // it is cut off, and 34 bytes decide, so that no more are kept however long the journal is.
 use super::text;
+use arrayvec::ArrayVec;
 use records::{Found, Record};
 use std::io;
 use std::io::Read;
+use std::ops::ControlFlow;
 
 const ROOM: usize = Record::MAX_RECORD as usize;
 
-// How many bytes of the record at hand are kept, its offset, and whether one was refused, behind which nothing is read.
-#[derive(Clone, Copy)]
-pub struct Place {
-    pub kept: usize,
-    pub offset: u64,
-    pub refused: bool,
+// The bytes of the record at hand, and its offset.
+#[derive(Drop)]
+struct Window {
+    kept: ArrayVec<u8, ROOM>,
+    offset: u64,
 }
 
-// Writes what the kept bytes come to, if they come to something.
-fn judged(rt: &impl Print, window: &[u8], at: Place) -> io::Result<Place> {
-    match records::read(window, 0) {
-        Found::Whole(r, _) => {
-            if 6 <= window.len() {
-                text::record(rt, r.kind(), &window[6..])?;
+impl Window {
+    // One byte more of the record at hand. Writes what the kept bytes come to, if they come to something; behind a refused record
+    // nothing is read.
+    fn gather(&mut self, rt: &impl Print, b: u8) -> io::Result<ControlFlow<()>> {
+        if self.kept.try_push(b).is_err() {
+            return Ok(ControlFlow::Continue(()));
+        }
+        match records::read(&self.kept, 0) {
+            Ok(Found::Whole(r, _)) => {
+                if let Some(payload) = self.kept.get(6..) {
+                    text::record(rt, r.kind(), payload)?;
+                }
+                self.offset = self.offset.wrapping_add(self.kept.len() as u64);
+                self.kept.clear();
             }
-            Ok(Place {
-                kept: 0,
-                offset: at.offset.wrapping_add(window.len() as u64),
-                refused: false,
-            })
+            Ok(Found::End | Found::Short) => {}
+            Err(refused) => {
+                text::refused(rt, refused.why, self.offset)?;
+                return Ok(ControlFlow::Break(()));
+            }
         }
-        Found::End => Ok(at),
-        Found::Short => Ok(at),
-        Found::Refused(why, _) => {
-            text::refused(rt, why, at.offset)?;
-            Ok(Place {
-                kept: at.kept,
-                offset: at.offset,
-                refused: true,
-            })
-        }
+        Ok(ControlFlow::Continue(()))
     }
-}
-
-// One byte more of the record at hand.
-fn gathered(rt: &impl Print, window: &mut [u8], at: Place, b: u8) -> io::Result<Place> {
-    let kept = at.kept;
-    if kept < window.len() {
-        window[kept] = b;
-        let n = kept + 1;
-        return judged(
-            rt,
-            &window[0..n],
-            Place {
-                kept: n,
-                offset: at.offset,
-                refused: false,
-            },
-        );
-    }
-    Ok(at)
-}
-
-// The bytes of a piece of the input, one after the other, up to a refused record.
-fn all_gathered(rt: &impl Print, window: &mut [u8], at: Place, piece: &[u8]) -> io::Result<Place> {
-    let mut now = at;
-    for b in piece {
-        if now.refused {
-            return Ok(now);
-        }
-        now = gathered(rt, window, now, *b)?;
-    }
-    Ok(now)
 }
 
 // Prints the journal that a reader gives. A proved loop has to end, and nothing says that the input does: its turns are counted
 // by a number that no input uses up. A journal that can't be read has no last line, and why is told by its name.
 pub fn print<R: Read>(rt: &(impl Print + Eprint), input: &mut R, name: &str) -> io::Result<()> {
-    let mut window = [0u8; ROOM];
-    let mut piece = [0u8; 4096];
-    let mut at = Place {
-        kept: 0,
+    let mut window = Window {
+        kept: ArrayVec::new(),
         offset: 0,
-        refused: false,
     };
+    let mut piece = [0u8; 4096];
     for _ in 0..u64::MAX {
         let n = match input.read(&mut piece) {
             Ok(n) => n,
@@ -93,10 +60,11 @@ pub fn print<R: Read>(rt: &(impl Print + Eprint), input: &mut R, name: &str) -> 
         if n == 0 {
             break;
         }
-        at = all_gathered(rt, &mut window, at, &piece[..n])?;
-        if at.refused {
-            return Ok(());
+        for b in &piece[..n] {
+            if window.gather(rt, *b)?.is_break() {
+                return Ok(());
+            }
         }
     }
-    text::ended(rt, at.kept == 0)
+    text::ended(rt, window.kept.is_empty())
 }

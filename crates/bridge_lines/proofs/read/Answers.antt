@@ -1,5 +1,5 @@
 -- `read` meets its contract: what stands before the first `#` is a line without its comment. Assumes nothing.
-use Rattle.std.proofs.Common.{◌≡◌, ℕ, ◌-◌, List, take, drop, ap, ◌∙◌, arith, le-ltb, lt-ltb}
+use Rattle.std.proofs.Common.{◌≡◌, ℕ, ◌-◌, List, take, drop, ap, ◌∙◌, le-ltb, lt-ltb}
 use Rattle.bridge_lines.specs.Kinds.{is_of}
 use Rattle.bridge_lines.specs.Reading.{line_of, read_of}
 use Rattle.bridge_lines.specs.Words.{is_hash, before, words_of}
@@ -10,12 +10,6 @@ use Rattle.bridge_lines.proofs.read.Goals as goal
 pub returns-then-line-gt256 : goal.returns-then-line-gt256
 unfolding read_of
 returns-then-line-gt256 c = simp (lt-ltb _ _ c.if-line-gt256.true)
-
-pub first-end-requires : goal.first-end-requires
-first-end-requires c = omega arith
-
-pub slice_bounds-line-count : goal.slice_bounds-line-count
-slice_bounds-line-count c = omega arith
 
 pub returns : goal.returns
 unfolding is_of read_of

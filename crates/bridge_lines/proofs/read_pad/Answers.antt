@@ -13,12 +13,6 @@ text : (c : After-first-end) → take (c.first-end.result - 0) (drop 0 c.args.li
 unfolding is_of
 text c = part (is_of Hash) c.args.line.now 0 c.first-end.result c.first-end.ensures.1
 
-pub first-end-requires : goal.first-end-requires
-first-end-requires c = omega arith
-
-pub slice_bounds-text-count : goal.slice_bounds-text-count
-slice_bounds-text-count c = omega arith
-
 pub returns-then-text-gt256 : goal.returns-then-text-gt256
 unfolding pad_of
 returns-then-text-gt256 c =

@@ -1,16 +1,10 @@
 -- `decimal::is_decimal` meets its contract: the three parts are those that the definition names. Assumes nothing.
-use Rattle.std.proofs.Common.{◌≡◌, ℕ, ◌-◌, List, take, drop, arith}
+use Rattle.std.proofs.Common.{◌≡◌, ℕ, ◌-◌, List, take, drop}
 use Rattle.bridge_lines.specs.Kinds.{is_of}
 use Rattle.bridge_lines.specs.Words.{is_point, before}
 use Rattle.bridge_lines.specs.declared.scan.Kind.TheVariants.{Point}
 use Rattle.bridge_lines.proofs.Bytes.{part}
 use Rattle.bridge_lines.proofs.decimal.is_decimal.Goals as goal
-
-pub first-end-requires : goal.first-end-requires
-first-end-requires c = omega arith
-
-pub slice_bounds-is_whole-count : goal.slice_bounds-is_whole-count
-slice_bounds-is_whole-count c = omega arith
 
 pub returns : goal.returns
 unfolding is_of

@@ -6,15 +6,6 @@ use Rattle.bridge_lines.specs.declared.scan.Kind.TheVariants.{Point}
 use Rattle.bridge_lines.proofs.Bytes.{rest, tail}
 use Rattle.bridge_lines.proofs.decimal.past_point.Goals as goal
 
-pub first-at-requires : goal.first-at-requires
-first-at-requires c = omega arith
-
-pub overflow_add-result : goal.overflow_add-result
-overflow_add-result c = omega arith
-
-pub slice_bounds-result-count : goal.slice_bounds-result-count
-slice_bounds-result-count c = omega arith
-
 pub returns-then-at-w : goal.returns-then-at-w
 unfolding is_of
 returns-then-at-w c =
@@ -22,9 +13,6 @@ returns-then-at-w c =
     let i : ℕ = c.first-at.result in
     let e : drop i w ≡ from is_point w = rest (is_of Point) w 0 i c.first-at.ensures.1 in
     tail w (i + 1) ∙ sym (drop-drop 1 i w) ∙ ap (λ (l : List ℕ). drop 1 l) e
-
-pub slice_bounds-result-count-2 : goal.slice_bounds-result-count-2
-slice_bounds-result-count-2 c = omega arith
 
 pub returns : goal.returns
 unfolding is_of

@@ -1,17 +1,8 @@
 -- `pad::past_word` meets its contract: behind the first word stand the others. Assumes nothing.
-use Rattle.std.proofs.Common.{ℕ, List, arith}
+use Rattle.std.proofs.Common.{ℕ, List}
 use Rattle.bridge_lines.proofs.Bytes.{tail}
 use Rattle.bridge_lines.proofs.Pads.{behind}
 use Rattle.bridge_lines.proofs.pad.past_word.Goals as goal
-
-pub first-at-requires : goal.first-at-requires
-first-at-requires c = omega arith
-
-pub first-end-requires : goal.first-end-requires
-first-end-requires c = omega arith
-
-pub slice_bounds-result-count : goal.slice_bounds-result-count
-slice_bounds-result-count c = omega arith
 
 pub returns : goal.returns
 returns c =

@@ -7,15 +7,6 @@ use Rattle.bridge_lines.proofs.pad.time.Goals as goal
 pub overflow_sub-last : goal.overflow_sub-last
 overflow_sub-last c = some c.args.w.now c.requires
 
-pub slice_bounds-size-count : goal.slice_bounds-size-count
-slice_bounds-size-count c = omega arith
-
-pub overflow_cast-result : goal.overflow_cast-result
-overflow_cast-result c = omega arith
-
-pub overflow_mul-result : goal.overflow_mul-result
-overflow_mul-result c = omega arith
-
 pub bounds-w-last : goal.bounds-w-last
 bounds-w-last c = omega (arith, some c.args.w.now c.requires)
 

@@ -1,18 +1,14 @@
 -- `pad::too_long` meets its contract: the first word decides. Assumes nothing.
-use Rattle.std.proofs.Common.{◌≡◌, Bool, true, false, [], get_or, sym, ◌∙◌}
-use Rattle.bridge_lines.specs.Pad.{same, stroke_word, too_long_of}
+use Rattle.std.proofs.Common.{true, false}
+use Rattle.bridge_lines.specs.Pad.{stroke_word, too_long_of}
 use Rattle.bridge_lines.specs.Words.{words_of}
+use Rattle.bridge_lines.proofs.Pads.{named}
 use Rattle.bridge_lines.proofs.pad.too_long.Goals as goal
-use Rattle.bridge_lines.proofs.pad.too_long.Goals.{After-is_word}
 
-first : (c : After-is_word) (t : Bool) → c.is_word.result ≡ t →
-    same (get_or (words_of c.args.text.now) 0 []) stroke_word ≡ t
-first c t e = rw (← c.word.ensures) (sym c.is_word.ensures ∙ e)
-
-pub returns-then-is_word : goal.returns-then-is_word
+pub returns-then-eq : goal.returns-then-eq
 unfolding too_long_of
-returns-then-is_word c = rw (first (goal.at.returns-then-is_word c).After-is_word true c.if-is_word.true)
+returns-then-eq c = rw (named (words_of c.args.text.now) 0 stroke_word true c.word.ensures c.as_slice.ensures c.eq.ensures c.if-eq.true)
 
 pub returns : goal.returns
 unfolding too_long_of
-returns c = rw (first (goal.at.returns c).After-is_word false c.if-is_word.false)
+returns c = rw (named (words_of c.args.text.now) 0 stroke_word false c.word.ensures c.as_slice.ensures c.eq.ensures c.if-eq.false)

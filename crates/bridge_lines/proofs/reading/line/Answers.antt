@@ -1,16 +1,14 @@
 -- `reading::line` meets its contract: at each turn the words before are in range, and those left lead to what the line comes to. Assumes nothing.
-use Rattle.std.proofs.Common.{◌≡◌, ℕ, ◌+◌, ◌<◌, ◌≤◌, Bool, true, false, List, [], ◌∷◌, length, get_or, drop, sym, refl, ap, ◌∙◌, arith, below_more}
-use Rattle.bridge_lines.specs.declared.Line.TheVariants.{Good}
+use Rattle.std.proofs.Common.{◌≡◌, ℕ, ◌+◌, ◌<◌, Bool, true, false, List, [], ◌∷◌, length, get_or, drop, sym, refl, ap, ◌∙◌, arith, below_more}
+use Rattle.std.specs.Prelude.{Ok, Some}
+use Rattle.bridge_lines.specs.declared.Bridge.{Bridge}
 use Rattle.bridge_lines.specs.Reading.{has_form, in_range, line_of}
 use Rattle.bridge_lines.specs.Words.{words_of}
-use Rattle.bridge_lines.proofs.Judging.{ends, goes, blank, too_few, no_number, out_of_range, right, too_many, good}
+use Rattle.bridge_lines.proofs.Judging.{ends, goes, empty, not_empty, blank, too_few, no_number, out_of_range, right, too_many, good}
 use Rattle.bridge_lines.proofs.reading.line.Goals as goal
 
 none : (j : ℕ) → j < 0 → ⊥
 none j h = omega arith
-
-some : {n : ℕ} → 0 < n → n ≡ 0 → ⊥
-some h e = omega arith
 
 -- the word at hand
 abbrev word : List ℕ → ℕ → List ℕ
@@ -31,32 +29,32 @@ ranged text k w r t e f h = rw (← e) (sym f ∙ h)
 
 pub loop-k-init : goal.loop-k-init
 unfolding line_of
-loop-k-init c = (omega arith, ((λ j h. absurd (none j h)), refl))
+loop-k-init c = record { right = λ j h. absurd (none j h); left = refl }
 
 pub returns-then-k-eq0 : goal.returns-then-k-eq0
 returns-then-k-eq0 c =
     let text = c.args.text.now in
     let k = c.loop-k.k in
-    blank (words_of text) k c.loop-k.invariant.1.1 c.if-k-eq0.true (past text k _ c.word-w.ensures c.if-w-eq0.true)
+    blank (words_of text) k c.loop-k.invariant.left c.if-k-eq0.true (past text k _ c.word-w.ensures (empty c.is_empty.ensures c.if-is_empty.true))
 
-pub returns-then-w-eq0 : goal.returns-then-w-eq0
-returns-then-w-eq0 c =
+pub returns-then-is_empty : goal.returns-then-is_empty
+returns-then-is_empty c =
     let text = c.args.text.now in
     let k = c.loop-k.k in
-    too_few (words_of text) k c.loop-k.invariant.1.1 (omega arith) c.if-k-eq0.false (past text k _ c.word-w.ensures c.if-w-eq0.true)
+    too_few (words_of text) k c.loop-k.invariant.left (omega arith) c.if-k-eq0.false (past text k _ c.word-w.ensures (empty c.is_empty.ensures c.if-is_empty.true))
 
 pub returns-then-not-has_form : goal.returns-then-not-has_form
 returns-then-not-has_form c =
     let text = c.args.text.now in
     let k = c.loop-k.k in
-    no_number (words_of text) k c.loop-k.invariant.1.1 (omega arith) (more text k _ c.word-w.ensures c.if-w-eq0.false)
+    no_number (words_of text) k c.loop-k.invariant.left (omega arith) (more text k _ c.word-w.ensures (not_empty c.is_empty.ensures c.if-is_empty.false))
     (formed text k _ _ false c.word-w.ensures c.has_form.ensures c.if-not-has_form.true)
 
 pub returns-then-not-in_range : goal.returns-then-not-in_range
 returns-then-not-in_range c =
     let text = c.args.text.now in
     let k = c.loop-k.k in
-    out_of_range (words_of text) k c.loop-k.invariant.1.1 (omega arith) (more text k _ c.word-w.ensures c.if-w-eq0.false)
+    out_of_range (words_of text) k c.loop-k.invariant.left (omega arith) (more text k _ c.word-w.ensures (not_empty c.is_empty.ensures c.if-is_empty.false))
     (formed text k _ _ true c.word-w.ensures c.has_form.ensures c.if-not-has_form.false)
     (ranged text k _ _ false c.word-w.ensures c.in_range.ensures c.if-not-in_range.true)
 
@@ -64,31 +62,29 @@ pub loop-k-preserved : goal.loop-k-preserved
 loop-k-preserved c =
     let text = c.args.text.now in
     let k = c.loop-k.k in
-    let r = ranged text k _ _ true c.word-w.ensures c.in_range.ensures c.if-not-in_range.false in (
-      omega arith,
-      (
-        below_more _ _ c.loop-k.invariant.1.0 r,
-        right (words_of text) k c.loop-k.invariant.1.1 (omega arith) (more text k _ c.word-w.ensures c.if-w-eq0.false)
-            (formed text k _ _ true c.word-w.ensures c.has_form.ensures c.if-not-has_form.false)
-            r,
-      ),
-    )
+    let r = ranged text k _ _ true c.word-w.ensures c.in_range.ensures c.if-not-in_range.false in
+    record {
+      right = below_more _ _ c.loop-k.invariant.right r;
+      left =
+          right (words_of text) k c.loop-k.invariant.left (omega arith) (more text k _ c.word-w.ensures (not_empty c.is_empty.ensures c.if-is_empty.false))
+          (formed text k _ _ true c.word-w.ensures c.has_form.ensures c.if-not-has_form.false)
+          r;
+    }
 
-pub returns-then-word-gt0 : goal.returns-then-word-gt0
-returns-then-word-gt0 c =
+pub returns-then-not-is_empty : goal.returns-then-not-is_empty
+returns-then-not-is_empty c =
     let text : List ℕ = c.args.text.now in
     let e : c.loop-k.k ≡ 8 = omega arith in
-    let n : 0 < length (get_or (words_of text) 8 []) = rw c.word.ensures at c.if-word-gt0.true in
-    too_many (words_of text) (rw e at c.loop-k.invariant.1.1) (goes (words_of text) 8 (λ z. some n z))
+    too_many (words_of text) (rw e at c.loop-k.invariant.left) (more text 8 _ c.word.ensures (not_empty c.is_empty-2.ensures c.if-not-is_empty.true))
 
 pub bridge-requires : goal.bridge-requires
 bridge-requires c =
     let e : c.loop-k.k ≡ 8 = omega arith in
-    rw e at c.loop-k.invariant.1.0
+    rw e at c.loop-k.invariant.right
 
 pub returns : goal.returns
 returns c =
     let text : List ℕ = c.args.text.now in
     let e : c.loop-k.k ≡ 8 = omega arith in
-    let n : length (get_or (words_of text) 8 []) ≤ 0 = rw c.word.ensures at c.if-word-gt0.false in
-    ap Good c.bridge.ensures ∙ good (words_of text) (rw e at c.loop-k.invariant.1.1) (ends text 8 (omega arith))
+    ap (λ (b : Bridge). Ok (Some b)) c.bridge.ensures
+    ∙ good (words_of text) (rw e at c.loop-k.invariant.left) (past text 8 _ c.word.ensures (empty c.is_empty-2.ensures c.if-not-is_empty.false))
