@@ -20,14 +20,14 @@ pub use narrowing::{Narrowed, narrow};
 pub fn is_finite_f32(x: f32) -> bool
     ensures { result ≡ finite x }
 {
-    (f32::from_bits(0xff80_0000) < x) & (x < f32::from_bits(0x7f80_0000))
+    (f32::NEG_INFINITY < x) & (x < f32::INFINITY)
 }
 
 // Whether x is a number: neither NaN nor an infinity.
 pub fn is_finite_f64(x: f64) -> bool
     ensures { result ≡ finite x }
 {
-    (f64::from_bits(0xfff0_0000_0000_0000) < x) & (x < f64::from_bits(0x7ff0_0000_0000_0000))
+    (f64::NEG_INFINITY < x) & (x < f64::INFINITY)
 }
 
 // x without its sign, a zero's too; NaN for NaN. By the pattern: the library's `abs` compares twice, and takes a quarter
@@ -54,10 +54,10 @@ pub fn sqrt_f32(x: f32) -> f32
     ensures equal { result ≡ root_of binary32 x }
     ensures nearest { Root binary32 x result }
 {
-    if (f32::from_bits(0x80_0000) <= x) & (x < f32::from_bits(0x7f80_0000)) {
+    if (f32::MIN_POSITIVE <= x) & (x < f32::INFINITY) {
         return root::normal32(f32::to_bits(x));
     }
-    if (0.0 < x) & (x < f32::from_bits(0x80_0000)) {
+    if (0.0 < x) & (x < f32::MIN_POSITIVE) {
         return root::subnormal32(f32::to_bits(x));
     }
     if x < 0.0 {
@@ -72,10 +72,10 @@ pub fn sqrt_f64(x: f64) -> f64
     ensures equal { result ≡ root_of binary64 x }
     ensures nearest { Root binary64 x result }
 {
-    if (f64::from_bits(0x10_0000_0000_0000) <= x) & (x < f64::from_bits(0x7ff0_0000_0000_0000)) {
+    if (f64::MIN_POSITIVE <= x) & (x < f64::INFINITY) {
         return root::normal64(f64::to_bits(x));
     }
-    if (0.0 < x) & (x < f64::from_bits(0x10_0000_0000_0000)) {
+    if (0.0 < x) & (x < f64::MIN_POSITIVE) {
         return root::subnormal64(f64::to_bits(x));
     }
     if x < 0.0 {

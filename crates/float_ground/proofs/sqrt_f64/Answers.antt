@@ -1,7 +1,7 @@
 -- `float_ground::sqrt_f64` meets its contract: each test tells which root x's pattern goes to, or that x has none or is its own. Assumes nothing.
 use mathlib.Core.Path.{sym, subst}
 use lib.Dec.{T}
-use lib.Ieee.{binary64, fits, nan_bits}
+use lib.Ieee.{binary64, fits}
 use Rattle.float_ground.proofs.RootKinds.{normal_number, subnormal_number, normal_bits, subnormal_bits, of_pattern, no_root, itself}
 use Rattle.float_ground.proofs.sqrt_f64.Goals as goal
 use Rattle.float_ground.proofs.sqrt_f64.Goals.{Start}
@@ -44,15 +44,3 @@ pub returns : goal.returns
 returns c =
     let whole = itself binary64 c.args.x (held (goal.at.returns c).Start) c.if-x.false c.if-x-2.false c.if-x-3.false in
     record { equal = whole.0; nearest = whole.1 }
-
-pub float_from_bits-t-2 : goal.float_from_bits-t-2
-unfolding nan_bits
-float_from_bits-t-2 c = tt
-
-pub float_from_bits-t-4 : goal.float_from_bits-t-4
-unfolding nan_bits
-float_from_bits-t-4 c = tt
-
-pub float_from_bits-t-2-2 : goal.float_from_bits-t-2-2
-unfolding nan_bits
-float_from_bits-t-2-2 c = tt
