@@ -3,10 +3,17 @@
 #![tactic(auto)]
 
 mod answer;
-mod lines;
 
 use std::io;
+use std::io::Input;
+
+fn run(rt: &(impl Input + Print)) -> io::Result<()> {
+    line_input::each_line(
+        &mut rt.reader(),
+        |number, line| answer::show(rt, number, line),
+    )
+}
 
 fn main(rt: HostRuntime) -> io::Result<()> {
-    lines::run(&rt)
+    run(&rt)
 }

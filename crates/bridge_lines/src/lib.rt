@@ -12,6 +12,9 @@ mod decimal;
 mod pad;
 mod reading;
 mod scan;
+mod words;
+
+pub use words::{BadBridge, BadStroke};
 
 // What is wrong with a line: a word that is no number of the kind that its place takes; a number that is too large or
 // has too many decimals; too few words, eight for a bridge and one for a stroke; too many; more bytes than a line may have.

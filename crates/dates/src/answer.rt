@@ -1,57 +1,44 @@
 // What is printed of a line.
 ghost use Rattle.std.specs.Prelude.{◌≡◌, ◌*◌, take};
 
-use bridge_lines::{Bridge, Fault, PadLine};
+use answers::Numbered;
+use bridge_lines::{Bad, BadBridge, BadStroke, Bridge, Fault, PadLine};
 use conic::Conic;
-use date_table::{Dated, Made, Refusal};
+use date_table::Refusal;
+use std::fmt::Display;
 use std::io;
 
 // The numbers of a table at the highest level: two for each entry.
-pub const ROOM: usize = 2 * ((1 << Conic::MAX_CUT_LEVEL) + 1);
+const ROOM: usize = 2 * ((1 << Conic::MAX_CUT_LEVEL) + 1);
 
 // The bridge that a stroke is dated by: none before the first; the entries of its table; or why there is no table.
 #[derive(Clone, Copy)]
-pub enum AtHand {
+enum AtHand {
     Nothing,
     Table(usize),
     Refused,
     Bad,
 }
 
-fn number(rt: &impl Print, n: u32) -> io::Result<()> {
-    rt.print(n)
-}
-
-// Writes what is told of the line of this number.
-fn told(rt: &impl Print, line: u64, what: &str) -> io::Result<()> {
-    print!(rt; "line {line}: {what}")
+// The bridge at hand, and the room for its table.
+#[derive(Drop)]
+pub struct Pad {
+    table: [u32; ROOM],
+    bridge: AtHand,
 }
 
 // Writes a refusal, by its number and in words.
 fn refused(rt: &impl Print, why: Refusal) -> io::Result<()> {
-    rt.print("refused ")?;
-    number(rt, why.number())?;
-    rt.println(match why {
-        Refusal::LevelTooHigh => ": level too high",
-        Refusal::BufferTooShort => ": too short",
-        Refusal::OddLength => ": half an entry",
-        Refusal::EntryOutOfRange => ": out of range",
-        Refusal::TimeOutside => ": outside the bridge",
-        Refusal::TableFalls => ": falling",
-    })
+    println!(rt; "refused {}: {why}", why.number())
 }
 
-// Makes the table of a bridge. Nothing is written of a good one.
-fn make(rt: &impl Print, table: &mut [u32; ROOM], line: u64, b: Bridge) -> io::Result<AtHand> {
-    let conic = b.conic;
-    match date_table::make(table, conic, b.level) {
-        Made::Entries(n) => Ok(AtHand::Table(n)),
-        Made::Refused(why) => {
-            told(rt, line, "bridge ")?;
-            refused(rt, why)?;
-            Ok(AtHand::Refused)
-        }
-    }
+// Writes what is wrong with a line, of which a comment is no part here.
+fn bad(rt: &impl Print, line: u64, words: impl Display + Drop, why: Fault) -> io::Result<()> {
+    let counted = match why {
+        Fault::TooLong => " before its comment",
+        _ => "",
+    };
+    println!(rt; "line {line}: {words}{counted}")
 }
 
 // The first n entries of the room for a table, which are lent to a lookup without what stands behind them.
@@ -66,99 +53,65 @@ fn entries(table: &[u32], n: usize) -> &[u32]
 
 // Writes the date of a stroke by the entries of a table.
 fn date(rt: &impl Print, entries: &[u32], r: u32) -> io::Result<()> {
-    number(rt, r)?;
-    rt.print(" ")?;
+    print!(rt; "{r} ")?;
     match date_table::date_at(entries, r) {
-        Dated::Date(d) => println!(rt; "{d}"),
-        Dated::Refused(why) => refused(rt, why),
+        Ok(date) => println!(rt; "{date}"),
+        Err(why) => refused(rt, why),
     }
 }
 
-// Writes what becomes of a stroke; only a table that was made of the bridge before it dates it.
-fn stroke(rt: &impl Print, table: &[u32], line: u64, r: u32, bridge: AtHand) -> io::Result<()> {
-    match bridge {
-        AtHand::Table(n) => date(rt, entries(table, n), r),
-        AtHand::Nothing => told(rt, line, "no bridge before this stroke\n"),
-        AtHand::Refused => told(rt, line, "the bridge before this stroke was refused\n"),
-        AtHand::Bad => told(rt, line, "the bridge before this stroke is bad\n"),
+impl Pad {
+    pub fn new() -> Pad {
+        Pad {
+            table: [0; ROOM],
+            bridge: AtHand::Nothing,
+        }
     }
-}
 
-// Writes what the number at a place is not; the last is number 8 of a bridge, and number 1 of a stroke.
-fn no_number(rt: &impl Print, place: u32, last: u32) -> io::Result<()> {
-    if last < 8 {
-        rt.println("no whole number from 0 to 4294967295")
-    } else if place < 7 {
-        rt.println("no whole number from -16777216 to 16777216")
-    } else if place < 8 {
-        rt.println(
-            "no number such as 2 or -0.75, with at most 7 digits, at most 6 of them behind the point",
-        )
-    } else {
-        rt.println("no whole number from 0 to 999999999")
+    // Makes the table of a bridge. Nothing is written of a good one.
+    fn make(&mut self, rt: &impl Print, line: u64, b: Bridge) -> io::Result<()> {
+        self.bridge = match date_table::make(&mut self.table, b.conic, b.level) {
+            Ok(n) => AtHand::Table(n),
+            Err(why) => {
+                print!(rt; "line {line}: bridge ")?;
+                refused(rt, why)?;
+                AtHand::Refused
+            }
+        };
+        Ok(())
     }
-}
 
-// Writes what is wrong with a line.
-fn bad(rt: &impl Print, line: u64, place: u32, last: u32, why: Fault) -> io::Result<()> {
-    match why {
-        Fault::NoNumber => {
-            told(rt, line, "number ")?;
-            print!(rt; "{place} is ")?;
-            no_number(rt, place, last)
+    // Writes what becomes of a stroke; only a table that was made of the bridge before it dates it.
+    fn stroke(&self, rt: &impl Print, line: u64, r: u32) -> io::Result<()> {
+        match self.bridge {
+            AtHand::Table(n) => date(rt, entries(&self.table, n), r),
+            AtHand::Nothing => println!(rt; "line {line}: no bridge before this stroke"),
+            AtHand::Refused => println!(rt;
+                "line {line}: the bridge before this stroke was refused"
+            ),
+            AtHand::Bad => println!(rt; "line {line}: the bridge before this stroke is bad"),
         }
-        Fault::OutOfRange => {
-            told(rt, line, "number ")?;
-            print!(rt; "{place} is out of range: it is ")?;
-            no_number(rt, place, last)
-        }
-        Fault::TooFew => {
-            told(rt, line, "too few numbers: number ")?;
-            println!(rt; "{place} is missing")
-        }
-        Fault::TooMany => {
-            told(rt, line, "too many numbers: number ")?;
-            println!(rt; "{last} is the last")
-        }
-        Fault::TooLong => told(
-            rt,
-            line,
-            "too long: a line has at most 256 bytes before its comment\n",
-        ),
     }
-}
 
-// Writes what the line of this number comes to; the bridge that stands before the next. A bad stroke, or a line that is
-// neither and too short for a bridge, leaves the one before it.
-pub fn show(
-    rt: &impl Print,
-    table: &mut [u32; ROOM],
-    line: u64,
-    t: &[u8],
-    bridge: AtHand,
-) -> io::Result<AtHand> {
-    match bridge_lines::read_pad(t) {
-        PadLine::Blank => Ok(bridge),
-        PadLine::Bridge(b) => make(rt, table, line, b),
-        PadLine::BadBridge(place, why) => {
-            bad(rt, line, place, 8, why)?;
-            Ok(AtHand::Bad)
-        }
-        PadLine::Stroke(r) => {
-            stroke(rt, table, line, r, bridge)?;
-            Ok(bridge)
-        }
-        PadLine::BadStroke(place, why) => {
-            bad(rt, line, place, 1, why)?;
-            Ok(bridge)
-        }
-        PadLine::MaybeBridge => {
-            told(rt, line, "the first word is neither bridge nor stroke\n")?;
-            Ok(AtHand::Bad)
-        }
-        PadLine::OtherWord => {
-            told(rt, line, "the first word is neither bridge nor stroke\n")?;
-            Ok(bridge)
+    // Writes what the line of this number comes to. A bad stroke, or a line that is neither and too short for a bridge, leaves the
+    // bridge before it.
+    pub fn show(&mut self, rt: &impl Print, line: u64, text: &[u8]) -> io::Result<()> {
+        match bridge_lines::read_pad(text) {
+            PadLine::Blank => Ok(()),
+            PadLine::Bridge(Ok(b)) => self.make(rt, line, b),
+            PadLine::Bridge(Err(why)) => {
+                self.bridge = AtHand::Bad;
+                bad(rt, line, BadBridge(why), why.why)
+            }
+            PadLine::Stroke(Ok(r)) => self.stroke(rt, line, r),
+            PadLine::Stroke(Err(why)) => bad(rt, line, BadStroke(why), why.why),
+            PadLine::MaybeBridge => {
+                self.bridge = AtHand::Bad;
+                println!(rt; "line {line}: the first word is neither bridge nor stroke")
+            }
+            PadLine::OtherWord => {
+                println!(rt; "line {line}: the first word is neither bridge nor stroke")
+            }
         }
     }
 }

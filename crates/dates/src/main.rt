@@ -2,10 +2,16 @@
 #![tactic(auto)]
 
 mod answer;
-mod lines;
 
+use answer::Pad;
 use std::io;
+use std::io::Input;
+
+fn run(rt: &(impl Input + Print)) -> io::Result<()> {
+    let mut pad = Pad::new();
+    line_input::each_line(&mut rt.reader(), |number, line| pad.show(rt, number, line))
+}
 
 fn main(rt: HostRuntime) -> io::Result<()> {
-    lines::run(&rt)
+    run(&rt)
 }
