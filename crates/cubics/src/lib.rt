@@ -169,22 +169,10 @@ fn cubic_of(src: &[f32]) -> Result<Cubic, quads::Refusal>
         return Err(quads::Refusal::BufferTooShort);
     }
     Ok(Cubic {
-        p0: Point {
-            x: src[0],
-            y: src[1],
-        },
-        p1: Point {
-            x: src[2],
-            y: src[3],
-        },
-        p2: Point {
-            x: src[4],
-            y: src[5],
-        },
-        p3: Point {
-            x: src[6],
-            y: src[7],
-        },
+        p0: Point::from_xy(src[0], src[1]),
+        p1: Point::from_xy(src[2], src[3]),
+        p2: Point::from_xy(src[4], src[5]),
+        p3: Point::from_xy(src[6], src[7]),
     })
 }
 

@@ -162,18 +162,9 @@ fn quad_of(src: &[f32]) -> Result<Quad, Refusal>
         return Err(Refusal::BufferTooShort);
     }
     Ok(Quad {
-        p0: Point {
-            x: src[0],
-            y: src[1],
-        },
-        p1: Point {
-            x: src[2],
-            y: src[3],
-        },
-        p2: Point {
-            x: src[4],
-            y: src[5],
-        },
+        p0: Point::from_xy(src[0], src[1]),
+        p1: Point::from_xy(src[2], src[3]),
+        p2: Point::from_xy(src[4], src[5]),
     })
 }
 

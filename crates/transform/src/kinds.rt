@@ -13,9 +13,6 @@ pub struct Scale {
     pub y: f32,
 }
 
-// A scale of at most this much counts as none: Rust's `f32::EPSILON`.
-const EPSILON: f32 = 1.1920929e-7;
-
 impl Transform {
     // Whether it scales.
     pub fn has_scale(self) -> bool
@@ -108,13 +105,13 @@ impl Transform {
         }
     }
 
-    // Whether it is finite and scales by more than EPSILON both across and up.
+    // Whether it is finite and scales both across and up: a scale of at most `f32::EPSILON` counts as none.
     pub fn is_valid(self) -> bool
         ensures { result ≡ is_valid self }
     {
         let scale = self.get_scale();
         self.is_finite()
-            & !(is_nearly_zero_within_tolerance(scale.x, EPSILON)
-                | is_nearly_zero_within_tolerance(scale.y, EPSILON))
+            & !(is_nearly_zero_within_tolerance(scale.x, f32::EPSILON)
+                | is_nearly_zero_within_tolerance(scale.y, f32::EPSILON))
     }
 }
