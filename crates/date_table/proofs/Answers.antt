@@ -1,5 +1,5 @@
 -- What a call that makes a table answers, by the tests that led there. Assumes nothing.
-use Rattle.std.proofs.Common.{◌≡◌, ℕ, ◌+◌, ◌-◌, ◌*◌, ◌%◌, ◌^◌, ◌<◌, ◌≤◌, Bool, true, false, cond, not, ◌||◌, ltb, List, ◌++◌, length, take, drop, sym, refl, ap, ◌∙◌, arith, take_at, pow_mono, le-ltb, lt-ltb, eq-eqb, ne_eqb}
+use Rattle.std.proofs.Common.{◌≡◌, ℕ, ◌+◌, ◌-◌, ◌*◌, ◌%◌, ◌^◌, ◌≤◌, Bool, true, false, cond, not, ◌||◌, ltb, List, ◌++◌, length, take, drop, sym, refl, ap, ◌∙◌, arith, take_at, pow_mono, le-ltb, eq-eqb, ne_eqb}
 use Rattle.std.specs.Prelude.{Result, Ok, Err}
 use lib.Seq.{sets}
 use lib.Ieee.{Float}
@@ -46,16 +46,6 @@ made_into {n = n} {c = c} {short = short} {l = l} e b =
 -- ---- the numbers that are tested are those that were rounded into a buffer
 pub in_front : (t b l : List ℕ) (n : ℕ) → b ≡ sets l 0 t → length t ≡ n → n ≤ length l → take (n - 0) b ≡ t
 in_front t b l n e h k = let z : n - 0 ≡ n = omega arith in ap (λ (j : ℕ). take j b) z ∙ ap (take n) e ∙ sets-take t l n h k
-
--- ---- the level and the room
-module _ (n : ℕ) (c : Conic) (short : Bool) (l : List ℕ) where
-  pub too_deep : ceiling < n → MadeInto n c short l (Err LevelTooHigh) l
-  unfolding made_answer made_table
-  too_deep h = made_into (rw (lt-ltb ceiling n h)) (rw (lt-ltb ceiling n h))
-
-  pub too_short : n ≤ ceiling → (ltb (length l) (table_room n) || short) ≡ true → MadeInto n c short l (Err BufferTooShort) l
-  unfolding made_answer made_table
-  too_short h k = made_into (rw (le-ltb ceiling n h, k)) (rw (le-ltb ceiling n h, k))
 
 -- ---- the points that a cut leaves at the front of a buffer
 pub cut_points : (n s : ℕ) (c : Conic) (l b : List Float) → n ≤ ceiling → room n ≤ length l → b ≡ cut_buffer chop_by_rule n (by_both_axes c) false l → s ≡ 2 ^ n

@@ -1,8 +1,6 @@
 -- Of many times each gets the date that it gets alone. Assumes nothing.
 use Rattle.std.proofs.Common.{◌≡◌, ℕ, ◌%◌, Bool, true, false, cond, eqb, ltb, List, length, get_or, sym, refl, ap, ◌∙◌, ltb-false}
-use Rattle.std.specs.Prelude.{Result, Ok, Err}
-use Rattle.date_table.specs.declared.NotDated.{NotDated}
-use Rattle.date_table.specs.declared.NotDated.TheVariants.{OutsideAt, Refused}
+use Rattle.std.specs.Prelude.{Ok, Err}
 use Rattle.date_table.specs.Laws.{EachAsAlone}
 use Rattle.date_table.specs.All.{first_outside, all_answer}
 use Rattle.date_table.specs.Table.{within, rising, check_of, date_in}

@@ -1,7 +1,7 @@
 -- A forward bridge is never refused: the points of its cut rise along both axes from its start to its end, so every second one does,
 -- lies in range, and is rounded to a table that rises. Assumes nothing.
 use Rattle.std.proofs.Common.{◌≡◌, ℕ, ◌+◌, ◌%◌, ◌^◌, ◌≤◌, Bool, true, false, ◌&&◌, T, List, [], ◌∷◌, ◌++◌, length, take, drop, pos, sym, refl, ap, ◌∙◌, ⊎_elim, arith, take_at, drop_at, le-ltb, le-leb}
-use Rattle.std.specs.Prelude.{Result, Ok, Err}
+use Rattle.std.specs.Prelude.{Result, Ok}
 use mathlib.Core.Path.{subst⁻¹}
 use lib.Ieee.{Float, nan, inf, fin, le}
 use lib.Ieee.Bits.{is_true}
@@ -21,11 +21,11 @@ use Rattle.conic_cut.proofs.Order.{cut_in_order}
 use Rattle.conic_cut.proofs.Stores.{written-length}
 use Rattle.date_table.specs.declared.Refusal.{Refusal}
 use Rattle.date_table.specs.Forward.{Forward, table_in, DatesThrough, NeverRefused}
-use Rattle.date_table.specs.Making.{by_both_axes, every_second, taken_of, rounded_of, all_in_range, cut_of, table_room, made_answer, made_table, MadeInto}
+use Rattle.date_table.specs.Making.{by_both_axes, every_second, taken_of, rounded_of, all_in_range, cut_of, table_room, made_answer, made_table}
 use Rattle.date_table.specs.Table.{rising, check_of, first_x, first_y, last_x, last_y}
 use Rattle.date_table.specs.Whole.{in_range, whole_of}
 use Rattle.date_table.proofs.Dates.{sound, dated, walked}
-use Rattle.date_table.proofs.Answers.{table, table_length, made}
+use Rattle.date_table.proofs.Answers.{table, table_length, made, made_into}
 use Rattle.date_table.proofs.Pass.{is_well}
 use Rattle.date_table.proofs.Taken.{within_all}
 use Rattle.date_table.proofs.Walk.{ends_x, walk_mono}
@@ -220,3 +220,6 @@ pub never_refused_from : (n : ℕ) (c : Conic) (src : List Float) (l : List ℕ)
 never_refused_from n c src l r l₁ e b h =
     never_refused n c l r l₁ (e ∙ ap (λ (k : Bool). made_answer n (length l) k c) (le-ltb (length src) 6 h))
     (b ∙ ap (λ (k : Bool). made_table n c k l) (le-ltb (length src) 6 h))
+
+-- what both calls are proved by
+pub ruleset makes = (made_into, never_refused, never_refused_from)

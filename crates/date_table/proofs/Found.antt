@@ -1,6 +1,6 @@
 -- The date of a time, by the place of the last entry whose x is not above it. Assumes nothing.
 use Rattle.std.proofs.Common.{◌≡◌, ℕ, suc, ◌+◌, ◌-◌, ◌<◌, ◌≤◌, true, false, cond, ◌||◌, ltb, List, length, get_or, sym, refl, ap, ◌∙◌, arith}
-use Rattle.std.specs.Prelude.{Result, Ok, Err, IsOk}
+use Rattle.std.specs.Prelude.{Ok, Err, IsOk}
 use Rattle.date_table.specs.declared.Refusal.TheVariants.{TimeOutside}
 use Rattle.date_table.specs.Search.{Bracket, LastNotAbove}
 use Rattle.date_table.specs.Table.{check_of, first_x, last_x, part_way, outside, date_in, date_of}

@@ -1,6 +1,6 @@
 -- At the x of an entry, the last with that x, the date is its y. Assumes nothing.
 use Rattle.std.proofs.Common.{◌≡◌, ℕ, suc, ◌+◌, ◌-◌, ◌*◌, ◌<◌, ◌≤◌, ◌∷◌, ◌++◌, length, get_or, ap, ◌∙◌, arith, length-append, get_or-append-add}
-use Rattle.std.specs.Prelude.{Result, Ok, Err}
+use Rattle.std.specs.Prelude.{Ok}
 use native.Mathlib.Nat.{zero-div}
 use Rattle.date_table.specs.Laws.{EntriesAreKept}
 use Rattle.date_table.specs.Table.{first_x, last_x, part_way}

@@ -1,6 +1,6 @@
 -- Many times by one table: the first that is outside, and the dates stored over them one by one. Assumes nothing.
-use Rattle.std.proofs.Common.{◌≡◌, ℕ, zero, suc, ◌+◌, ◌<◌, ◌≤◌, Bool, true, false, cond, ltb, List, [], ◌∷◌, map, length, get_or, drop, set, sym, refl, ap, ◌∙◌, append-nil, arith, drop_of_length-le, take_all, drop-cons, ltb-false, ltb-true, le-ltb, lt-ltb}
-use Rattle.std.specs.Prelude.{Result, Ok, Err, Option, Some, None, position}
+use Rattle.std.proofs.Common.{◌≡◌, ℕ, zero, suc, ◌+◌, ◌<◌, ◌≤◌, Bool, true, false, cond, ltb, List, [], ◌∷◌, map, length, get_or, drop, set, sym, refl, ap, ◌∙◌, arith, ltb-false, ltb-true, le-ltb, lt-ltb}
+use Rattle.std.specs.Prelude.{Result, Ok, Err, Some, None, position}
 use Rattle.std.specs.List.{position_or_len}
 use lib.ListN.{length-map}
 use lib.Seq.{paste, paste-suc, drop-paste}
@@ -90,11 +90,6 @@ module _ (f : ℕ → ℕ) (ts : List ℕ) (i : ℕ) where
         ap (λ (k : ℕ). set (paste ts 0 (map f ts) i) k d) (sym from_start)
         ∙ ap (set (paste ts 0 (map f ts) i) (0 + i)) (e ∙ sym (map_at f ts i h))
         ∙ paste-suc ts 0 (map f ts) i 0 there (omega (arith, length-map ts f)) ∙ ap (paste ts 0 (map f ts)) next
-
-  pub paste_all : length ts ≤ i → paste ts 0 (map f ts) i ≡ map f ts
-  paste_all h =
-      let long : length (map f ts) ≤ i = omega (arith, length-map ts f) in
-      rw (from_start, take_all i (map f ts) long, drop_of_length-le ts h) (append-nil (map f ts))
 
 -- ---- the answer, its number and its values, and the times at exit
 abbrev pub refused_by : Refusal → Result (Unit {0}) NotDated

@@ -1,10 +1,9 @@
 -- The test of a table from the entry at i on, a step and the end. Assumes nothing.
 use Rattle.std.proofs.Common.{◌≡◌, ℕ, ◌+◌, ◌*◌, ◌/◌, ◌%◌, ◌<◌, ◌≤◌, Bool, true, false, ◌&&◌, ◌||◌, ltb, leb, List, [], ◌∷◌, length, get_or, drop, sym, refl, ap, ◌∙◌, arith, length-drop, drop_of_length-le, get_or-drop, drop-drop, ltb-false, ltb-true, le-ltb, eq-eqb, ne_eqb, le-leb, leb-true}
-use Rattle.std.specs.Prelude.{Result, Ok, Err}
+use Rattle.std.specs.Prelude.{Ok}
 use mathlib.Core.Bool.{and_assoc, and-true}
 use borrow.Author.Tests.{lt-leb}
 use lib.Dec.{leb-zero}
-use Rattle.date_table.specs.declared.Refusal.TheVariants.{BufferTooShort, OddLength, EntryOutOfRange, TableFalls}
 use Rattle.date_table.specs.Table.{within, rising, check_of}
 use Rattle.date_table.specs.Whole.{max_entry}
 use Rattle.date_table.proofs.Dates.{neither}
@@ -78,26 +77,10 @@ pub within_end : (i : ℕ) (l : List ℕ) → length l % 2 ≡ 0 → length l / 
 unfolding within
 within_end i l e h = let past : length l ≤ 2 * i = omega arith in rw (drop_of_length-le l past)
 
--- ---- the answers
-module _ (l : List ℕ) where
-  pub is_empty : length l ≡ 0 → Err BufferTooShort ≡ check_of l
-  unfolding check_of
-  is_empty h = rw (eq-eqb (length l) 0 h)
+-- ---- a table that passes
+pub is_well : (l : List ℕ) → (length l ≡ 0 → ⊥) → length l % 2 ≡ 0 → within l ≡ true → rising l ≡ true → Ok tt ≡ check_of l
+unfolding check_of
+is_well l some even w u = rw (ne_eqb (length l) 0 some, eq-eqb (length l % 2) 0 even, w, u)
 
-  module _ (some : length l ≡ 0 → ⊥) where
-    pub is_odd : (length l % 2 ≡ 0 → ⊥) → Err OddLength ≡ check_of l
-    unfolding check_of
-    is_odd k = rw (ne_eqb (length l) 0 some, ne_eqb (length l % 2) 0 k)
-
-    module _ (even : length l % 2 ≡ 0) where
-      pub is_large : within l ≡ false → Err EntryOutOfRange ≡ check_of l
-      unfolding check_of
-      is_large w = rw (ne_eqb (length l) 0 some, eq-eqb (length l % 2) 0 even, w)
-
-      pub is_well : within l ≡ true → rising l ≡ true → Ok tt ≡ check_of l
-      unfolding check_of
-      is_well w u = rw (ne_eqb (length l) 0 some, eq-eqb (length l % 2) 0 even, w, u)
-
-      pub is_falling : within l ≡ true → rising l ≡ false → Err TableFalls ≡ check_of l
-      unfolding check_of
-      is_falling w u = rw (ne_eqb (length l) 0 some, eq-eqb (length l % 2) 0 even, w, u)
+-- what the test is proved by
+pub ruleset steps = (too_large, none_large, rises_on, rises_start, rises_end, within_end)

@@ -103,7 +103,7 @@ impl From<Refusal> for NotDated {
 // Makes the date table of c: cut by both axes whatever rule c carries, every second point from the first on, rounded down.
 // That is 2^level + 1 entries from the start of `table` on, as it is answered; lookups are to be lent these and not the tail
 // behind them.
-#[tactic(auto, using(crate::proofs::Answers::made_into, crate::proofs::Forward::never_refused), unfolding(crate::specs::Making::made_answer, crate::specs::Making::made_table))]
+#[tactic(auto, using(crate::proofs::Forward::makes), unfolding(crate::specs::Making::made_answer, crate::specs::Making::made_table))]
 pub fn make(table: &mut [u32], c: Conic, level: u32) -> Result<usize, Refusal>
     ensures made_into { MadeInto level c false table.old result table.new }
     ensures forward { NeverRefused (Ok (2 ^ level + 1)) level c table.old result table.new }
@@ -118,7 +118,7 @@ pub fn make(table: &mut [u32], c: Conic, level: u32) -> Result<usize, Refusal>
 }
 
 // The same of the conic of the first six numbers of `src`, with this weight.
-#[tactic(auto, using(crate::proofs::Answers::made_into, crate::proofs::Forward::never_refused_from), unfolding(crate::specs::Making::made_answer, crate::specs::Making::made_table, conic::specs::Source::source_answer))]
+#[tactic(auto, using(crate::proofs::Forward::makes), unfolding(crate::specs::Making::made_answer, crate::specs::Making::made_table, conic::specs::Source::source_answer))]
 pub fn make_from(table: &mut [u32], src: &[f32], weight: f32, level: u32) -> Result<usize, Refusal>
     ensures made_into { MadeInto level (conic_of src.now weight BothAxes) (short_source src.now)
         table.old result table.new }

@@ -7,7 +7,7 @@ ghost use Rattle.date_table.specs.Table.{check_of, part_way, outside, date_in, d
 use super::{NotDated, Refusal, whole};
 
 // Tests a table, in one pass.
-#[tactic(auto, using(crate::proofs::Pass::too_large, crate::proofs::Pass::none_large, crate::proofs::Pass::rises_on, crate::proofs::Pass::rises_start, crate::proofs::Pass::rises_end, crate::proofs::Pass::within_end), unfolding(crate::specs::Table::check_of))]
+#[tactic(auto, using(crate::proofs::Pass::steps), unfolding(crate::specs::Table::check_of))]
 pub fn test(table: &[u32]) -> Result<(), Refusal>
     ensures { result ≡ check_of table.now }
 {

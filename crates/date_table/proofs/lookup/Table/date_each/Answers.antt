@@ -1,5 +1,5 @@
 -- `Table::date_each` meets its contract: the time at hand is as it was, so not outside, and its date is stored. Assumes nothing.
-use Rattle.std.proofs.Common.{◌≡◌, ℕ, List, get_or, set, ap, ◌∙◌}
+use Rattle.std.proofs.Common.{ℕ, List, get_or, set, ap, ◌∙◌}
 use Rattle.date_table.specs.Table.{outside, date_in}
 use Rattle.date_table.proofs.Many.{inside_of, none-outside, paste_at, paste_next}
 use Rattle.date_table.proofs.lookup.Table.date_each.Goals as goal
