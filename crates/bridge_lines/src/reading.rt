@@ -8,7 +8,8 @@ use super::{Bad, Bridge, Fault, decimal, scan};
 use conic::{Conic, Rule};
 use point::Point;
 
-// Whether w is a number of the kind that its place takes.
+// Whether w is a number of the kind that its place takes. It goes by the place itself, by which a bad line is told too: an enum
+// of the three kinds would have to be made of it first.
 fn has_form(place: u32, w: &[u8]) -> bool
     ensures { result ≡ has_form place w.now }
 {

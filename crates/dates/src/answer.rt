@@ -20,7 +20,8 @@ enum AtHand {
     Bad,
 }
 
-// The bridge at hand, and the room for its table.
+// The bridge at hand, and the room for its table, of which a refused bridge changes nothing: so it is no vector, and how many
+// entries it has stands in the bridge.
 #[derive(Drop)]
 pub struct Pad {
     table: [u32; ROOM],

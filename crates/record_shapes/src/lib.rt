@@ -1,5 +1,6 @@
 // Conics and transforms as records keep them: each number as the 32 bits of its f32. Bits become a conic of the exact rule or
-// a transform, and these become bits again; what comes back as it was is told in specs/Laws.antt.
+// a transform, and these become bits again; what comes back as it was is told in specs/Laws.antt. Each is a function and no `From`,
+// since none of the types is of this crate.
 #![tactic(auto)]
 
 ghost use Rattle.std.specs.Prelude.{◌≡◌};

@@ -119,7 +119,7 @@ impl Record {
         }
     }
 
-    // Stores its words: seven, six or one. The others keep their contents.
+    // Stores its words: seven, six or one. The others keep their contents, since the memory is C's.
     pub fn store_words(self, words: &mut [u32; 7])
         ensures words_after { words.new ≡ words_over self words.old }
         ensures fits { Fits self }
