@@ -15,7 +15,6 @@ use Rattle.conic.specs.declared.ruling.Test.{Test}
 use Rattle.conic.specs.declared.ruling.Test.TheVariants as By
 use Rattle.conic.specs.Between.{passes}
 use Rattle.conic.specs.Chop.{conic_from, chop_by_rule}
-
 use Rattle.point.specs.Numbers.{flat}
 use Rattle.conic_cut.specs.Cut.{all_finite, plain, written, room, cut_answer, number_of_cut}
 
