@@ -18,7 +18,8 @@ pub fn quads(level: u32) -> usize
     1usize << level
 }
 
-// Whether each point of s, two numbers a point, passes the crate's finite test.
+// Whether each point of s, two numbers a point, passes the crate's finite test. All are tested, with no early end, so that
+// the loop goes over eight numbers at a time (docs/SPEED.md).
 #[tactic(auto, using(crate::proofs::Stores::all_more, crate::proofs::Stores::all_end))]
 fn all_finite(s: &[f32]) -> bool
     ensures { result ≡ all_finite (points_of s.now) }

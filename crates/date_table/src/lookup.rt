@@ -37,7 +37,8 @@ pub fn test(table: &[u32]) -> Result<(), Refusal>
     Ok(())
 }
 
-// The place of the last entry whose x is not above r, in a table whose first x is not.
+// The place of the last entry whose x is not above r, in a table whose first x is not. By hand: `partition_point` searches
+// entries, and its promise asks that all of them are in order, where `Bracket` speaks of the two at hand.
 fn last_not_above(table: &[u32], r: u32) -> usize
     requires { Bracket table.now r 0 (length table.now) }
     ensures { LastNotAbove table.now r result }

@@ -24,7 +24,7 @@ pub fn spans(level: u32) -> usize
     1usize << level
 }
 
-// Stores every second point, from the first on, rounded down.
+// Stores every second point, from the first on, rounded down. By places: of what `chunks_exact_mut` lends nothing is known after.
 #[tactic(auto, using(crate::proofs::Taken::entries))]
 fn round_into(out: &mut [u32], points: &[f32])
     requires { length (rounded_of (points_of points.now)) ≤ length out.old }
