@@ -1,4 +1,5 @@
-// Each number of the list, and the calls that it stands for.
+// Each number of the list, and the calls that it stands for. A list names a call by its number: an enum would be made of it here,
+// only to be taken apart at once.
 use super::record::Record;
 use super::sum::Sum;
 use super::{of_buffers, of_conics, of_ground, of_roots, of_shapes, of_transforms, sum};
