@@ -5,7 +5,7 @@
 ghost use Rattle.std.specs.Prelude.{◌≡◌, ◌<◌, ◌↔◌, ℕ, IsOk};
 ghost use Rattle.answers.specs.Answers.{number_of, value_or};
 
-// Why a call does nothing. Each crate has an enum of its own, so that what is not listed there cannot happen.
+// Why a call does nothing: an enum of the crate that refuses, with derives.
 pub trait Numbered: Copy {
     ghost number_of: { Self → ℕ };
 

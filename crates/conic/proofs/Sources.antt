@@ -19,17 +19,9 @@ by_made : (b : Bool) (d c : Conic) → cond b (Err BufferTooShort) (Ok d) ≡ Ok
 by_made true d c e = let z : ◌≡◌ {A = ℕ} 0 1 = cc in absurd (omega arith)
 by_made false d c e = (refl, cc)
 
-by_refused : (b : Bool) (d : Conic) (r : Refusal) → cond b (Err BufferTooShort) (Ok d) ≡ Err r → (b ≡ true) × (r ≡ BufferTooShort)
-by_refused true d r e = (refl, cc)
-by_refused false d r e = let z : ◌≡◌ {A = ℕ} 0 1 = cc in absurd (omega arith)
-
 pub was_made : (l : List Float) (w : Float) (u : Rule) (c : Conic) → source_answer l w u ≡ Ok c → (ltb (length l) 6 ≡ false) × (c ≡ conic_of l w u)
 unfolding source_answer
 was_made l w u c e = by_made (ltb (length l) 6) (conic_of l w u) c e
-
-pub was_refused : (l : List Float) (w : Float) (u : Rule) (r : Refusal) → source_answer l w u ≡ Err r → (ltb (length l) 6 ≡ true) × (r ≡ BufferTooShort)
-unfolding source_answer
-was_refused l w u r e = by_refused (ltb (length l) 6) (conic_of l w u) r e
 
 of_answer : {A : Type 0} (of : Result Conic Refusal → A) (short : Bool) (c : Conic)
     → of (cond short (Err BufferTooShort) (Ok c)) ≡ cond short (of (Err BufferTooShort)) (of (Ok c))
