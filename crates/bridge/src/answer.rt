@@ -1,6 +1,4 @@
 // What is printed of a line.
-ghost use Rattle.std.specs.Prelude.{◌≤◌};
-
 use answers::Numbered;
 use bridge_lines::{BadBridge, Bridge};
 use conic::Conic;
@@ -40,20 +38,18 @@ fn note(rt: &impl Print, line: u64, axis: &str, a: f32, b: f32, c: f32) -> io::R
 }
 
 // Writes the points of a cut, and before them what no promise keeps.
-fn written(rt: &impl Print, line: u64, c: Conic, out: &[f32; ROOM], count: usize) -> io::Result<()>
-    requires { count ≤ 129 }
-{
-    println!(rt; "{count} points")?;
+fn written(rt: &impl Print, line: u64, c: Conic, numbers: &[f32]) -> io::Result<()> {
+    println!(rt; "{} points", numbers.len() / 2)?;
     note(rt, line, "y", c.p0.y, c.p1.y, c.p2.y)?;
     note(rt, line, "x", c.p0.x, c.p1.x, c.p2.x)?;
-    points(rt, &out[..2 * count])
+    points(rt, numbers)
 }
 
 // Cuts a bridge by its rule, that of both axes.
 fn cut(rt: &impl Print, line: u64, b: Bridge) -> io::Result<()> {
     let mut out = [0.0f32; ROOM];
     match conic_cut::chop_into_quads_pow2(&mut out, b.conic, b.level) {
-        Ok(quads) => written(rt, line, b.conic, &out, 2 * quads.min(QUADS) + 1),
+        Ok(quads) => written(rt, line, b.conic, &out[..4 * quads.min(QUADS) + 2]),
         Err(why) => println!(rt; "refused {}", why.number()),
     }
 }

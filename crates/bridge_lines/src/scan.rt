@@ -3,7 +3,7 @@ ghost use Rattle.std.specs.Prelude.{◌≡◌, ◌+◌, ◌≤◌, [], length, d
 ghost use Rattle.bridge_lines.specs.Kinds.{is_of};
 ghost use Rattle.bridge_lines.specs.Words.{before, words_of};
 
-// What is looked for, told by a value and not by a closure, so that one contract says of each search what it finds.
+// What is looked for, an enum and no closure, since the words of a line are defined by it (`is_of` and `before` of specs/).
 #[derive(Clone, Copy)]
 pub enum Kind {
     Blank,
@@ -37,7 +37,7 @@ pub fn first(s: &[u8], at: usize, kind: Kind) -> usize
 }
 
 // The word with k words before it, and an empty one where there is none. A line is short, so that each is looked for
-// from the start.
+// from the start, by its number: what is wrong is told by that number, and an iterator over words would have to be counted.
 pub fn word(text: &[u8], k: u32) -> &[u8]
     ensures { result.now ≡ slice_index_or (words_of text.now) k [] }
 {

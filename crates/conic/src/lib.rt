@@ -109,7 +109,7 @@ impl Conic {
         }
     }
 
-    // The conic of the first six numbers, x and y of each point; refused where there are fewer.
+    // The conic of the first six numbers, x and y of each point, by places; refused where there are fewer.
     #[tactic(auto, using(crate::proofs::Sources::taken), unfolding(crate::specs::Source::source_answer, crate::specs::Source::conic_of))]
     pub fn from_points(src: &[f32], weight: f32, rule: Rule) -> Result<Conic, Refusal>
         ensures { Taken src.now weight rule result }

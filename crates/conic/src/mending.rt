@@ -1,4 +1,6 @@
 // The corrections after a chop, along one axis. Carried over from `subdivide` in `path_geometry.rs` of tiny-skia-path 0.12.0.
+// The ends a and c of an axis and its control b are numbers side by side, as the formulas name them: in a struct they would have to
+// be put together first, for each of the two axes of a conic.
 #![tactic(auto, unfolding(crate::specs::Mend::nearer_of, crate::specs::Mend::ordered_of, crate::specs::Mend::rises_of, crate::specs::Mend::runs_of, crate::specs::Mend::settled_of))]
 
 ghost use Rattle.std.specs.Prelude.{◌≡◌, cond};

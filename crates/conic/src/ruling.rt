@@ -6,7 +6,8 @@ ghost use Rattle.conic.specs.Between.{passes};
 
 use crate::{between_exact, between_product};
 
-// The between test along an axis. One that nothing passes leaves the axis as it is.
+// The between test along an axis, an enum since `test_along` and `passes` of specs/ speak of it. One that nothing passes leaves the
+// axis as it is.
 #[derive(Clone, Copy)]
 pub enum Test {
     Never,

@@ -1,5 +1,6 @@
 // Stores of points, two numbers a point. Carried over from `path_geometry.rs` of tiny-skia-path 0.12.0.
-// A buffer and a place go side by side, and no writer holds both: the clauses above these speak of `sets out.old at ..`.
+// A buffer and a place go side by side, and no writer holds both: each answers the next place, of which the contracts of the
+// recursion speak (`sets out.old at ..`), where a writer would be lent on through every call of it.
 #![tactic(auto, using(crate::proofs::Lists::sets_then), unfolding(point::specs::Numbers::flat))]
 
 ghost use Rattle.std.specs.Prelude.{◌≡◌, [], ◌∷◌, ◌+◌, ◌*◌, ◌≤◌, length, replicate};

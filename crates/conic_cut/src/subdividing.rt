@@ -14,7 +14,8 @@ use point::Point;
 
 // The highest level of a cut, by which the ladder has its room. The proofs are by induction over the level.
 const DEEPEST: usize = Conic::MAX_CUT_LEVEL as usize;
-// Two numbers for each level. A ladder is no type of its own: what `Rungs` says of it is of the level and the weight of a call too.
+// Two numbers for each level, a scale and a weight. A ladder is no type of its own, nor an array of `Depth`: what `Rungs` says of it
+// is of the level and the weight of a call too, and the lowest rung has no weight.
 const RUNGS: usize = 2 * DEEPEST;
 
 // The rungs of a cut: a division and a root for each depth, and not for each chop. The halves of level 0 are stored and not

@@ -161,7 +161,7 @@ impl Cubic {
     }
 }
 
-// The cubic of eight lent numbers, if there are so many.
+// The cubic of eight lent numbers, if there are so many: by places, each of which a wrong version exchanges.
 fn cubic_of(src: &[f32]) -> Result<Cubic, quads::Refusal>
     ensures { result ≡ short_pick 8 src.now (Err Q.BufferTooShort) (Ok (C.cubic_of src.now)) }
 {

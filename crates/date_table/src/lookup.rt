@@ -6,7 +6,7 @@ ghost use Rattle.date_table.specs.Table.{check_of, part_way, outside, date_in, d
 
 use super::{NotDated, Refusal, whole};
 
-// Tests a table, in one pass.
+// Tests a table, in one pass; by places, an entry being two of the numbers that are lent.
 #[tactic(auto, using(crate::proofs::Pass::steps), unfolding(crate::specs::Table::check_of))]
 pub fn test(table: &[u32]) -> Result<(), Refusal>
     ensures { result ≡ check_of table.now }

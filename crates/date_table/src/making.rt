@@ -39,7 +39,7 @@ fn round_into(out: &mut [u32], points: &[f32])
 }
 
 // Stores every second point, rounded down to n numbers, in `table`, if they make one. They are rounded into another buffer,
-// since nothing may be stored before all are tested.
+// since nothing may be stored before all are tested. Both are lent whole, so that the wrong version that exchanges them can be tried.
 #[tactic(auto, using(crate::proofs::Answers::in_front))]
 fn store_tested(
     table: &mut [u32],

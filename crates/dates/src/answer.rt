@@ -20,8 +20,8 @@ enum AtHand {
     Bad,
 }
 
-// The bridge at hand, and the room for its table, of which a refused bridge changes nothing: so it is no vector, and how many
-// entries it has stands in the bridge.
+// The bridge at hand, and the room for its table: `date_table::make` stores a table over lent numbers and answers how many entries
+// they are, so that the room is an array.
 #[derive(Drop)]
 pub struct Pad {
     table: [u32; ROOM],

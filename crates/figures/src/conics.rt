@@ -1,4 +1,5 @@
 // The figures of conics.
+use super::shown;
 use super::shown::{Bits, Refused};
 use conic::{Conic, Rule};
 use std::io;
@@ -20,10 +21,9 @@ fn between(rt: &impl Print, name: &str, a: f32, b: f32, c: f32) -> io::Result<()
 
 // The level of the conic of weight 0 whose ys are 0, y, 0 and xs 0.
 fn level(rt: &impl Print, name: &str, y: f32, tolerance: f32, ceiling: u32) -> io::Result<()> {
-    match Conic::compute_quad_pow2_from(&[0.0, 0.0, 0.0, y, 0.0, 0.0], 0.0, tolerance, ceiling) {
-        Ok(n) => println!(rt; "{name}: {n}"),
-        Err(why) => println!(rt; "{name}: {}", Refused(why)),
-    }
+    let src = [0.0, 0.0, 0.0, y, 0.0, 0.0];
+    let level = Conic::compute_quad_pow2_from(&src, 0.0, tolerance, ceiling);
+    shown::answered(rt, name, level)
 }
 
 // The levels for a tolerance, by the crate's own ceiling, by that of a cut and by another.
@@ -71,10 +71,8 @@ fn cut(
 // How many quads the bend of weight 1 is cut into.
 fn counted(rt: &impl Print, name: &str, level: u32) -> io::Result<()> {
     let mut out = [0.0f32; 258];
-    match conic_cut::chop_into_quads_pow2_from(&mut out, &BEND, 1.0, Rule::Product, level) {
-        Ok(n) => println!(rt; "{name}: {n}"),
-        Err(why) => println!(rt; "{name}: {}", Refused(why)),
-    }
+    let quads = conic_cut::chop_into_quads_pow2_from(&mut out, &BEND, 1.0, Rule::Product, level);
+    shown::answered(rt, name, quads)
 }
 
 fn cuts(rt: &impl Print) -> io::Result<()> {

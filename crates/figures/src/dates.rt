@@ -1,4 +1,5 @@
 // The figures of dates.
+use super::shown;
 use super::shown::Refused;
 use date_table::NotDated;
 use std::io;
@@ -35,10 +36,7 @@ fn table(
 }
 
 fn date(rt: &impl Print, name: &str, entries: &[u32], r: u32) -> io::Result<()> {
-    match date_table::date_at(entries, r) {
-        Ok(d) => println!(rt; "date {name}: {d}"),
-        Err(why) => println!(rt; "date {name}: {}", Refused(why)),
-    }
+    shown::answered(rt, name, date_table::date_at(entries, r))
 }
 
 fn dates(rt: &impl Print, name: &str, entries: &[u32], times: &mut [u32]) -> io::Result<()> {
@@ -56,22 +54,22 @@ fn dates(rt: &impl Print, name: &str, entries: &[u32], times: &mut [u32]) -> io:
 }
 
 fn lookups(rt: &impl Print, entries: &[u32]) -> io::Result<()> {
-    date(rt, "of 0", entries, 0)?;
-    date(rt, "of 1", entries, 1)?;
-    date(rt, "of 2", entries, 2)?;
-    date(rt, "of 3", entries, 3)?;
-    date(rt, "of 4", entries, 4)?;
-    date(rt, "of 5", entries, 5)?;
+    date(rt, "date of 0", entries, 0)?;
+    date(rt, "date of 1", entries, 1)?;
+    date(rt, "date of 2", entries, 2)?;
+    date(rt, "date of 3", entries, 3)?;
+    date(rt, "date of 4", entries, 4)?;
+    date(rt, "date of 5", entries, 5)?;
     dates(rt, "0 to 4", entries, &mut [0, 1, 2, 3, 4])?;
     dates(rt, "0, 1, 5, 6", entries, &mut [0, 1, 5, 6])
 }
 
 // Tables that are none.
 fn bad(rt: &impl Print) -> io::Result<()> {
-    date(rt, "by no entry", &[], 0)?;
-    date(rt, "by half an entry", &[0, 0, 3], 0)?;
-    date(rt, "by 16777217", &[5, 0, 4, 16777217], 4)?;
-    date(rt, "by a fall", &[5, 0, 4, 16777216], 4)
+    date(rt, "date by no entry", &[], 0)?;
+    date(rt, "date by half an entry", &[0, 0, 3], 0)?;
+    date(rt, "date by 16777217", &[5, 0, 4, 16777217], 4)?;
+    date(rt, "date by a fall", &[5, 0, 4, 16777216], 4)
 }
 
 pub fn show(rt: &impl Print) -> io::Result<()> {

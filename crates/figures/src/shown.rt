@@ -1,7 +1,7 @@
 // How a figure is written. A float is the hexadecimal digits of its pattern, 8 for an f32, every NaN as one.
 use answers::Numbered;
 use point::Point;
-use std::fmt;
+use std::{fmt, io};
 use transform::{Computed, Transform};
 
 #[derive(Clone, Copy)]
@@ -43,6 +43,18 @@ impl fmt::Display for Told {
     fn fmt<W: fmt::Write>(&self, f: &mut fmt::Formatter<W>) -> fmt::Result {
         let flag = if self.0.rounded { " rounded" } else { "" };
         write!(f, "{}{flag}", Six(self.0.transform))
+    }
+}
+
+// Writes a line: a name, and what is answered under it.
+pub fn answered<T: fmt::Display + Drop, E: Numbered>(
+    rt: &impl Print,
+    name: &str,
+    answer: Result<T, E>,
+) -> io::Result<()> {
+    match answer {
+        Ok(x) => println!(rt; "{name}: {x}"),
+        Err(why) => println!(rt; "{name}: {}", Refused(why)),
     }
 }
 

@@ -1,5 +1,6 @@
-// The float ground: what Rust's floats have and Rattle's operators leave out.
-// `is_finite`, `abs`, `as` between `f32` and `f64`, and `sqrt`, as the code of tiny-skia-path 0.12.0 calls them (`scalar.rs`, `path_geometry.rs`, `transform.rs`).
+// The float ground: `is_finite`, `abs`, `as` between `f32` and `f64`, and `sqrt`, as the code of tiny-skia-path 0.12.0 calls them
+// (`scalar.rs`, `path_geometry.rs`, `transform.rs`). Narrowing and roots are not the library's: the wrong versions in must-fail/
+// speak of the digits here, and its root is an instruction or C's `sqrtf`, which would have to be trusted.
 #![tactic(auto)]
 
 ghost use Rattle.std.specs.Prelude.{◌≡◌};
@@ -23,7 +24,8 @@ pub fn is_finite_f32(x: f32) -> bool
     (f32::NEG_INFINITY < x) & (x < f32::INFINITY)
 }
 
-// Whether x is a number: neither NaN nor an infinity.
+// Whether x is a number: neither NaN nor an infinity. A form of `is_finite_f32` for both formats would take a trait with the ends of
+// each, and is longer than the two.
 pub fn is_finite_f64(x: f64) -> bool
     ensures { result ≡ finite x }
 {

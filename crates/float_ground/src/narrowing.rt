@@ -25,7 +25,7 @@ impl Narrowed {
         }
     }
 
-    // 0 where nothing was lost, 1 where it was rounded, 2 where it is gone to infinity.
+    // 0 where nothing was lost, 1 where it was rounded, 2 where it is gone to infinity: C's number, of `nz_narrow_told`.
     pub fn loss(self) -> u32
         ensures { result ≡ loss_of self }
     {

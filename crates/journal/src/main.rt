@@ -60,6 +60,7 @@ fn main(rt: HostRuntime) -> io::Result<()> {
     if !named(&rt, 1)? {
         return standard_input(&rt);
     }
+    // nothing says how many arguments there are: the first that is missing ends the loop
     for i in 2..usize::MAX {
         if !named(&rt, i)? {
             break;

@@ -15,7 +15,8 @@ const PAYLOAD: usize = 28;
 
 const ROOM: usize = 2 * PAYLOAD + 3;
 
-// A hexadecimal digit, in upper case.
+// A hexadecimal digit, in upper case. By hand, since `line_of` of specs/ says each byte of a line, and a text by `{:02X}` has no
+// contract here.
 #[tactic(auto, unfolding(crate::specs::Text::digit_of))]
 fn digit(n: u8) -> u8
     requires { n < 16 }

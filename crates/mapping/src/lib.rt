@@ -29,7 +29,8 @@ impl Numbered for Refusal {
     }
 }
 
-// Maps each point of a buffer that holds x, y, x, y. A buffer of odd length is left as it is.
+// Maps each point of a buffer that holds x, y, x, y. A buffer of odd length is left as it is. By places: of what `chunks_exact_mut`
+// lends nothing is known after.
 pub fn map_numbers(ts: Transform, numbers: &mut [f32]) -> Result<(), Refusal>
     ensures answer { result ≡ mapping_answer numbers.old }
     ensures number { number_of_mapping result ≡ mapping_number numbers.old }

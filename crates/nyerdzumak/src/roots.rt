@@ -76,7 +76,8 @@ pub fn nz_find_cubic_extrema(a: f32, b: f32, c: f32, d: f32, roots: &mut [f32; 2
     give(cubics::find_cubic_extrema(a, b, c, d), roots)
 }
 
-// Stores what was found and how many, unless it is a refusal; and the answer's number.
+// Stores what was found and how many, unless it is a refusal; and the answer's number. Not by `answers::give`: places past those
+// that were found keep their contents.
 fn give_inflections(found: Result<Roots, Refusal>, roots: &mut [f32; 2], count: &mut u32) -> u32
     ensures value { result ≡ number_of_inflections found }
     ensures roots { roots.new ≡ sets roots.old 0 (values_of_inflections found) }

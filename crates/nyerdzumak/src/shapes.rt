@@ -10,7 +10,7 @@ use answers::Numbered;
 use point::Point;
 use quads::Refusal;
 
-// Stores a point, if there is one; and the answer's number.
+// Stores a point, if there is one; and the answer's number. Not by `answers::give`: a point is stored as two numbers.
 #[tactic(auto, unfolding(point::specs::Numbers::flat))]
 fn give(answer: Result<Point, Refusal>, out: &mut [f32; 2]) -> u32
     ensures value { result ≡ number_of_point answer }

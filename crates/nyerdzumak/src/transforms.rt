@@ -136,7 +136,7 @@ pub fn nz_transform_post_translate(
     give_told(matrix(m).post_translate(tx, ty), out, rounded);
 }
 
-// Stores an inverse and its flag, if there is one; and the answer's number.
+// Stores an inverse and its flag, if there is one; and the answer's number. Not by `answers::give`: it is stored in two places.
 fn give_inverse(answer: Result<Computed, Refusal>, out: &mut [f32; 6], rounded: &mut bool) -> u32
     ensures value { result ≡ number_of_inversion answer }
     ensures out { out.new ≡ filled_or out.old (values_of_inversion answer) }

@@ -154,7 +154,7 @@ impl Quad {
     }
 }
 
-// The quad of six lent numbers, if there are so many.
+// The quad of six lent numbers, if there are so many: by places, each of which a wrong version exchanges.
 fn quad_of(src: &[f32]) -> Result<Quad, Refusal>
     ensures { result ≡ short_pick 6 src.now (Err Refusal.BufferTooShort) (Ok (Q.quad_of src.now)) }
 {

@@ -2,7 +2,7 @@
 // only to be taken apart at once.
 use super::record::Record;
 use super::sum::Sum;
-use super::{of_buffers, of_conics, of_ground, of_roots, of_shapes, of_transforms, sum};
+use super::{of_arrays, of_buffers, of_conics, of_ground, of_transforms, sum};
 use nyerdzumak::{conics, roots, shapes, transforms};
 
 // The calls on lent numbers that write into a buffer of any length.
@@ -32,15 +32,16 @@ fn into_buffers(call: u32, r: &Record, src: &[f32]) -> Sum {
 
 // The calls on lent numbers.
 fn on_points(call: u32, r: &Record, src: &[f32]) -> Sum {
+    let weight = r.float(7);
     let t = r.float(9);
     match call {
-        7 => of_roots::find_cubic_inflections(src),
-        8 => of_shapes::point(|out| shapes::nz_eval_quad_at(src, t, out)),
-        9 => of_shapes::point(|out| shapes::nz_eval_quad_tangent_at(src, t, out)),
-        10 => of_shapes::point(|out| shapes::nz_eval_cubic_pos_at(src, t, out)),
-        11 => of_shapes::point(|out| shapes::nz_eval_cubic_tangent_at(src, t, out)),
-        14 => of_shapes::curvature(src),
-        15 => of_conics::chop(r, src),
+        7 => of_arrays::find_cubic_inflections(src),
+        8 => of_arrays::many(|out| shapes::nz_eval_quad_at(src, t, out)),
+        9 => of_arrays::many(|out| shapes::nz_eval_quad_tangent_at(src, t, out)),
+        10 => of_arrays::many(|out| shapes::nz_eval_cubic_pos_at(src, t, out)),
+        11 => of_arrays::many(|out| shapes::nz_eval_cubic_tangent_at(src, t, out)),
+        14 => of_arrays::one(|t| shapes::nz_find_quad_max_curvature(src, t)),
+        15 => of_arrays::many(|halves| conics::nz_conic_chop(src, weight, halves)),
         16 => of_conics::compute_quad_pow2(r, src),
         19 => of_conics::auto_conic_to_quads(r, src),
         _ => into_buffers(call, r, src),
@@ -60,10 +61,10 @@ fn on_numbers(call: u32, r: &Record) -> Sum {
     let c = r.float(3);
     let d = r.float(4);
     match call {
-        3 => of_roots::one(|root| roots::nz_valid_unit_divide(a, b, root)),
-        4 => of_roots::two(|places| roots::nz_find_unit_quad_roots(a, b, c, places)),
-        5 => of_roots::one(|root| roots::nz_find_quad_extrema(a, b, c, root)),
-        _ => of_roots::two(|places| roots::nz_find_cubic_extrema(a, b, c, d, places)),
+        3 => of_arrays::one(|root| roots::nz_valid_unit_divide(a, b, root)),
+        4 => of_arrays::many(|places| roots::nz_find_unit_quad_roots(a, b, c, places)),
+        5 => of_arrays::one(|root| roots::nz_find_quad_extrema(a, b, c, root)),
+        _ => of_arrays::many(|places| roots::nz_find_cubic_extrema(a, b, c, d, places)),
     }
 }
 

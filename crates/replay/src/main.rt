@@ -4,11 +4,10 @@
 #![tactic(auto)]
 
 mod calls;
+mod of_arrays;
 mod of_buffers;
 mod of_conics;
 mod of_ground;
-mod of_roots;
-mod of_shapes;
 mod of_transforms;
 mod record;
 mod sum;

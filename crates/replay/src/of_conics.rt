@@ -1,15 +1,8 @@
-// The calls on conics that give halves, a level, or the whole cut of the crate's own choice.
+// The calls on conics that give a level, or the whole cut of the crate's own choice.
 use super::record::Record;
 use super::sum;
 use super::sum::Sum;
 use nyerdzumak::conics;
-
-// What the call gives that halves.
-pub fn chop(r: &Record, src: &[f32]) -> Sum {
-    let mut halves = sum::standing();
-    let number = conics::nz_conic_chop(src, r.float(7), &mut halves);
-    Sum::START.word(number).floats(&halves)
-}
 
 // What the choice of a level gives.
 pub fn compute_quad_pow2(r: &Record, src: &[f32]) -> Sum {

@@ -95,10 +95,8 @@ pub fn map_point(m: &[f32; 6], x: f32, y: f32) -> Sum {
 // Eight places, the first n of which, but at most six, hold the last numbers of a record.
 pub fn eight(r: &Record, n: usize) -> [f32; 8] {
     let mut places = sum::standing();
-    for k in 0..6 {
-        if k < n {
-            places[k] = r.float(7 + k);
-        }
-    }
+    let last: [f32; 6] = r.floats(7);
+    let n = n.min(6);
+    places[..n].copy_from_slice(&last[..n]);
     places
 }

@@ -13,7 +13,7 @@ pub struct Entry {
 }
 
 impl Entry {
-    // x narrowed once.
+    // x narrowed once. Whether something was lost is asked of the number that says so: `NothingLost` of float_ground is of it.
     #[tactic(auto, using(float_ground::proofs::Losses::carried, float_ground::proofs::Losses::told))]
     pub fn of(x: f64) -> Self
         ensures { result ≡ entry_of x }

@@ -33,7 +33,8 @@ impl Numbered for Refusal {
     }
 }
 
-// One over the determinant, and whether narrowing the determinant was not exact: both are always there.
+// One over the determinant, and whether narrowing the determinant was not exact: both are always there. An f64, beside `Entry` of an
+// f32, which alone is moved: as one generic type it would have a method for one of its two uses.
 #[derive(Clone, Copy)]
 struct InvDeterminant {
     value: f64,

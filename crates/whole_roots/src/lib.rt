@@ -14,7 +14,8 @@ fn has_entry(k: u32) -> bool
     (256 <= k) & (k < 1024)
 }
 
-// The table's entry for k: the whole part of the root of k * 65536, for k from 256 to 1023; 0 for any other k.
+// The table's entry for k: the whole part of the root of k * 65536, for k from 256 to 1023; 0 for any other k, which is no entry, as
+// the definition `entry_of` has it.
 #[tactic(auto, using(crate::proofs::Only::inside, crate::proofs::Only::entry_is, crate::proofs::Only::no_entry))]
 pub fn table_entry(k: u32) -> u32
     ensures { result ≡ entry_of k }

@@ -1,3 +1,4 @@
+-- What the halving keeps of the two places, and that they come nearer. Assumes nothing.
 use Rattle.std.proofs.Common.{◌-◌}
 use Rattle.date_table.specs.Search.{Bracket}
 use Rattle.date_table.proofs.lookup.last_not_above.Given as goal
