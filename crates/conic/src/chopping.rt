@@ -128,17 +128,13 @@ pub fn mended(c: Conic, l: Lines) -> Lines
     }
 }
 
-// The halves of c that these lines make, number by number: a cut that copies its points whole was measured slower
-// (docs/SPEED.md, "the conic put together for the recursion").
+// The halves of c that these lines make.
 pub fn halves(c: Conic, l: Lines, weight: f32) -> Halves
     ensures { result ≡ halves_at weight c l }
 {
     let rule = c.rule;
     let first = Conic {
-        p0: Point {
-            x: c.p0.x,
-            y: c.p0.y,
-        },
+        p0: c.p0,
         p1: Point {
             x: l.x.left,
             y: l.y.left,
@@ -159,10 +155,7 @@ pub fn halves(c: Conic, l: Lines, weight: f32) -> Halves
             x: l.x.right,
             y: l.y.right,
         },
-        p2: Point {
-            x: c.p2.x,
-            y: c.p2.y,
-        },
+        p2: c.p2,
         weight,
         rule,
     };

@@ -22,22 +22,13 @@ pub fn put(out: &mut [f32], at: usize, p: Point) -> usize
     next + 1
 }
 
-// Stores the points of c, as a quad, but the first, and answers the next place. Number by number: points that are copied whole
-// wait for the stores that they come from (docs/SPEED.md).
+// Stores the points of c, as a quad, but the first, and answers the next place.
 pub fn put_quad(out: &mut [f32], at: usize, c: Conic) -> usize
     requires { at + 4 ≤ length out.old }
     ensures { (result ≡ at + 4) × (out.new ≡ sets out.old at (flat (c.p1 ∷ c.p2 ∷ []))) }
 {
-    let control = Point {
-        x: c.p1.x,
-        y: c.p1.y,
-    };
-    let end = Point {
-        x: c.p2.x,
-        y: c.p2.y,
-    };
-    let next = put(out, at, control);
-    put(out, next, end)
+    let next = put(out, at, c.p1);
+    put(out, next, c.p2)
 }
 
 // Stores both halves, each as a quad.

@@ -154,30 +154,6 @@ fn subdivide(out: &mut [f32], at: usize, rungs: &[f32; RUNGS], c: Conic, level: 
     subdivide(out, next, rungs, h.second, less)
 }
 
-// c itself, put together number by number. What is handed on by value stands in memory, and a read that spans several stores
-// waits for them (docs/SPEED.md, "the conic put together for the recursion").
-fn put_together(c: Conic) -> Conic
-    ensures { result ≡ c }
-{
-    let rule = c.rule;
-    Conic {
-        p0: Point {
-            x: c.p0.x,
-            y: c.p0.y,
-        },
-        p1: Point {
-            x: c.p1.x,
-            y: c.p1.y,
-        },
-        p2: Point {
-            x: c.p2.x,
-            y: c.p2.y,
-        },
-        weight: c.weight,
-        rule,
-    }
-}
-
 // Stores all the points of the cut but the first from `at` on, at any level, and answers the next place.
 #[tactic(auto, using(crate::proofs::Ladder::climbed))]
 pub fn cut(out: &mut [f32], at: usize, c: Conic, level: u32) -> usize
@@ -193,5 +169,5 @@ pub fn cut(out: &mut [f32], at: usize, c: Conic, level: u32) -> usize
     if level == 1 {
         return in_full(out, at, &rungs, c, level);
     }
-    subdivide(out, at, &rungs, put_together(c), level)
+    subdivide(out, at, &rungs, c, level)
 }
