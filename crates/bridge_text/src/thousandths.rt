@@ -5,7 +5,7 @@ ghost use Rattle.bridge_text.specs.Thousandths.{nearest_up, held_of, thousandths
 // Where a size is held: a number of so many thousandths is not written.
 const MOST: u64 = 1000000000000;
 
-// q * 2^j in thousandths.
+// q * 2^j in thousandths. Here and below q is a float's significand, a number that `thousandths` takes apart once.
 fn whole(q: u64, j: u64) -> u64
     requires significand { q < 2 ^ 24 }
     requires shift { j < 16 }

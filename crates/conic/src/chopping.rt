@@ -16,6 +16,7 @@ pub struct Line {
     pub right: f32,
 }
 
+// Both axes. A conic stands beside its lines wherever a chop is made of them: the lines are moved, and the conic stays.
 #[derive(Clone, Copy)]
 pub struct Lines {
     pub x: Line,

@@ -10,7 +10,8 @@ use crate::{storing, subdividing};
 use conic::Conic;
 use point::Point;
 
-// 2 to the level.
+// 2 to the level. That a level is no deeper than the deepest, and that there is room, each function here asks by a clause of its own:
+// a level is the number that C gives, a buffer what it lends, and both are tested once, in lib.rt.
 pub fn quads(level: u32) -> usize
     requires { level ≤ deepest }
     ensures { result ≡ 2 ^ level }

@@ -40,7 +40,7 @@ impl Numbered for Refusal {
     }
 }
 
-// The coefficient of t³, along one axis.
+// The coefficient of t³, along one axis. The numbers of an axis go side by side here and below, named as in the Rust.
 fn leading(p0: f32, p1: f32, p2: f32, p3: f32) -> f32
     ensures { result ≡ C.leading p0 p1 p2 p3 }
 {

@@ -16,7 +16,7 @@ const CUT: usize = 2 * (2 * QUADS + 1);
 
 const TABLE: usize = 2 * (QUADS + 1);
 
-// 2 to the level; a table has one entry more.
+// 2 to the level; a table has one entry more. conic_cut has the same line inside: a call for it would be public, and longer.
 pub fn spans(level: u32) -> usize
     requires { level ≤ ceiling }
     ensures { result ≡ 2 ^ level }

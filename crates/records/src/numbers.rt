@@ -1,5 +1,6 @@
 // Numbers of two and four bytes, the low byte first: each call is a line of its own size, since no trait of the library has
-// `from_le_bytes` and `to_le_bytes` for both, and its contract has the bytes of that size (`half` and `word`, `two` and `four`).
+// `from_le_bytes` and `to_le_bytes` for both, and its contract has the bytes of that size (`half` and `word`, `two` and `four`). The
+// bytes and an offset go side by side, since a refusal tells the offset.
 ghost use Rattle.std.specs.Prelude.{◌≡◌, ◌+◌, ◌*◌, ◌≤◌, length};
 ghost use Rattle.std.proofs.lemmas.List.Edits.{sets};
 ghost use Rattle.records.specs.Numbers.{two, four, half, word, words_at};
