@@ -16,7 +16,7 @@ fn coordinate(rt: &impl Print, v: f32) -> io::Result<()> {
     rt.write_all(bridge_text::text(v).trim_ascii_start())
 }
 
-// Writes points, a line for each.
+// Writes points, a line for each; a coordinate is bytes, and no text to be laid out.
 fn points(rt: &impl Print, numbers: &[f32]) -> io::Result<()> {
     for [x, y] in numbers.as_chunks::<2>().0 {
         coordinate(rt, *x)?;

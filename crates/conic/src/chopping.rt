@@ -78,14 +78,12 @@ pub fn chopped(c: Conic, scale: f32) -> Lines
         return l;
     }
     let x = Line {
-        left: l.x.left,
         middle: wide_middle(c.p0.x, c.p1.x, c.p2.x, c.weight),
-        right: l.x.right,
+        ..l.x
     };
     let y = Line {
-        left: l.y.left,
         middle: wide_middle(c.p0.y, c.p1.y, c.p2.y, c.weight),
-        right: l.y.right,
+        ..l.y
     };
     Lines { x, y }
 }
@@ -97,8 +95,7 @@ pub fn is_settled(c: Conic, l: Lines) -> bool
     if !mending::is_settled(c.p0.y, c.p2.y, l.y) {
         return false;
     }
-    let rule = c.rule;
-    match rule {
+    match c.rule {
         Rule::Product | Rule::Exact => true,
         Rule::BothAxes => mending::is_settled(c.p0.x, c.p2.x, l.x),
     }
@@ -121,8 +118,7 @@ fn mended_by(x: Test, y: Test, c: Conic, l: Lines) -> Lines
 pub fn mended(c: Conic, l: Lines) -> Lines
     ensures { result ≡ mended_lines c l }
 {
-    let rule = c.rule;
-    match rule {
+    match c.rule {
         Rule::Product => mended_by(Test::Never, Test::Product, c, l),
         Rule::Exact => mended_by(Test::Never, Test::Exact, c, l),
         Rule::BothAxes => mended_by(Test::Exact, Test::Exact, c, l),

@@ -74,6 +74,7 @@ fn subdivide_in_full(
     if less == 0 {
         return storing::put_halves(out, at, h);
     }
+    // the rules by name, since a wrong version changes each
     let f = h.first;
     let first_rule = f.rule;
     let g = h.second;
@@ -102,9 +103,8 @@ fn in_full(out: &mut [f32], at: usize, rungs: &[f32; RUNGS], c: Conic, level: u3
     requires { (at + 4 * 2 ^ level ≤ length out.old) × ((1 ≤ level) × ((level ≤ deepest) × (Rungs rungs.now level c.weight))) }
     ensures { (result ≡ at + 4 * 2 ^ level) × (out.new ≡ sets out.old at (flat (cut_points chop_by_rule level c))) }
 {
-    let rule = c.rule;
     subdivide_in_full(
-        out, at, rungs, c.p0.x, c.p0.y, c.p1.x, c.p1.y, c.p2.x, c.p2.y, c.weight, rule, level,
+        out, at, rungs, c.p0.x, c.p0.y, c.p1.x, c.p1.y, c.p2.x, c.p2.y, c.weight, c.rule, level,
     )
 }
 

@@ -73,6 +73,7 @@ fn cross(p: Point, q: Point) -> f32
     p.x * q.y - p.y * q.x
 }
 
+// A formula is of one axis, as docs/RULES.md has it, and is asked for x and for y.
 impl Cubic {
     // The point at t.
     #[tactic(auto, unfolding(crate::specs::Cubics::cubic_at))]

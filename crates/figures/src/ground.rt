@@ -36,7 +36,7 @@ pub fn show(rt: &impl Print) -> io::Result<()> {
     narrowed(rt, "2^-149", 1.401298464324817e-45)?;
     narrowed(rt, "3 * 2^-150", 2.1019476964872256e-45)?;
     narrowed(rt, "2^128", 3.402823669209385e38)?;
-    narrowed(rt, "infinity", 1.0 / 0.0)?;
+    narrowed(rt, "infinity", f64::INFINITY)?;
     narrowed(rt, "NaN", 0.0 / 0.0)?;
     println!(rt; "absolute value of -0: {}", Bits(abs_f32(-0.0)))
 }

@@ -88,7 +88,7 @@ fn refused_skewed(rt: &impl Print) -> io::Result<()> {
     inverted(
         rt,
         "from_row(1,1,1,1,infinity,0) inverted:",
-        Transform::from_row(1.0, 1.0, 1.0, 1.0, 1.0 / 0.0, 0.0),
+        Transform::from_row(1.0, 1.0, 1.0, 1.0, f32::INFINITY, 0.0),
     )?;
     inverted(
         rt,
@@ -128,7 +128,7 @@ fn refused_unskewed(rt: &impl Print) -> io::Result<()> {
     inverted(
         rt,
         "from_translate(0,infinity) inverted:",
-        Transform::from_translate(0.0, 1.0 / 0.0),
+        Transform::from_translate(0.0, f32::INFINITY),
     )
 }
 

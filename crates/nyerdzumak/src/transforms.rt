@@ -14,6 +14,7 @@ use answers::Numbered;
 use point::Point;
 use transform::{Computed, Refusal, Transform};
 
+// A function and no `From`, since neither type is of this crate.
 pub(crate) fn matrix(m: &[f32; 6]) -> Transform
     ensures { result ≡ matrix_of m.now }
 {

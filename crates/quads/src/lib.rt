@@ -94,12 +94,13 @@ fn clamped(numer: f32, denom: f32) -> Result<f32, NoCurvature>
         return Ok(1.0);
     }
     let t = numer / denom;
-    if t != t {
+    if t.is_nan() {
         return Err(NoCurvature::Undefined);
     }
     Ok(t)
 }
 
+// A formula is of one axis, as docs/RULES.md has it, and is asked for x and for y.
 impl Quad {
     // The point at t.
     #[tactic(auto, unfolding(crate::specs::Quads::quad_at))]

@@ -56,7 +56,8 @@ impl TryFrom<u32> for Kind {
     }
 }
 
-// The record of a kind whose words stand at an offset.
+// The record of a kind whose words stand at an offset. Its numbers are named here alone, so that no conversion from words is made a
+// name of its own.
 #[tactic(auto, unfolding(crate::specs::Record::count_of, crate::specs::Record::record_of))]
 pub fn record_at(bytes: &[u8], at: usize, kind: Kind) -> Record
     requires { at + 4 * count_of (number_of_kind kind) ≤ length bytes.now }

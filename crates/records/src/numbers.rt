@@ -21,7 +21,7 @@ pub fn word_at(bytes: &[u8], at: usize) -> u32
     u32::from_le_bytes([bytes[at], bytes[at + 1], bytes[at + 2], bytes[at + 3]])
 }
 
-// As many words as are asked for, from an offset on.
+// As many words as are asked for, from an offset on, which moves by a word.
 pub fn words_at<const N: usize>(bytes: &[u8], at: usize) -> [u32; N]
     requires { at + 4 * N ≤ length bytes.now }
     ensures { result ≡ words_at bytes.now at N }
