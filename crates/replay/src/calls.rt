@@ -36,12 +36,12 @@ fn on_points(call: u32, r: &Record, src: &[f32]) -> Sum {
     let t = r.float(9);
     match call {
         7 => of_arrays::find_cubic_inflections(src),
-        8 => of_arrays::many(|out| shapes::nz_eval_quad_at(src, t, out)),
-        9 => of_arrays::many(|out| shapes::nz_eval_quad_tangent_at(src, t, out)),
-        10 => of_arrays::many(|out| shapes::nz_eval_cubic_pos_at(src, t, out)),
-        11 => of_arrays::many(|out| shapes::nz_eval_cubic_tangent_at(src, t, out)),
+        8 => of_arrays::two(|out| shapes::nz_eval_quad_at(src, t, out)),
+        9 => of_arrays::two(|out| shapes::nz_eval_quad_tangent_at(src, t, out)),
+        10 => of_arrays::two(|out| shapes::nz_eval_cubic_pos_at(src, t, out)),
+        11 => of_arrays::two(|out| shapes::nz_eval_cubic_tangent_at(src, t, out)),
         14 => of_arrays::one(|t| shapes::nz_find_quad_max_curvature(src, t)),
-        15 => of_arrays::many(|halves| conics::nz_conic_chop(src, weight, halves)),
+        15 => of_conics::chop(src, weight),
         16 => of_conics::compute_quad_pow2(r, src),
         19 => of_conics::auto_conic_to_quads(r, src),
         _ => into_buffers(call, r, src),
@@ -62,9 +62,9 @@ fn on_numbers(call: u32, r: &Record) -> Sum {
     let d = r.float(4);
     match call {
         3 => of_arrays::one(|root| roots::nz_valid_unit_divide(a, b, root)),
-        4 => of_arrays::many(|places| roots::nz_find_unit_quad_roots(a, b, c, places)),
+        4 => of_arrays::two(|places| roots::nz_find_unit_quad_roots(a, b, c, places)),
         5 => of_arrays::one(|root| roots::nz_find_quad_extrema(a, b, c, root)),
-        _ => of_arrays::many(|places| roots::nz_find_cubic_extrema(a, b, c, d, places)),
+        _ => of_arrays::two(|places| roots::nz_find_cubic_extrema(a, b, c, d, places)),
     }
 }
 

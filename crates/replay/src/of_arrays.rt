@@ -12,8 +12,8 @@ pub fn one<F: FnOnce(&mut f32) -> u32>(call: F) -> Sum
     Sum::START.word(answer).float(place)
 }
 
-// What a call gives that stores over many.
-pub fn many<const N: usize, F: FnOnce(&mut [f32; N]) -> u32>(call: F) -> Sum
+// What a call gives that stores over two.
+pub fn two<F: FnOnce(&mut [f32; 2]) -> u32>(call: F) -> Sum
     requires { F.IsAlwaysCallable call }
 {
     let mut places = sum::standing();

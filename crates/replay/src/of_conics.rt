@@ -1,8 +1,16 @@
-// The calls on conics that give a level, or the whole cut of the crate's own choice.
+// The calls on conics that give two halves, a level, or the whole cut of the crate's own choice.
 use super::record::Record;
 use super::sum;
 use super::sum::Sum;
 use nyerdzumak::conics;
+
+// What the two halves give. This reads like `of_arrays::two`, with other places: a closure's bound that names
+// a const parameter is not proved today.
+pub fn chop(src: &[f32], weight: f32) -> Sum {
+    let mut halves = sum::standing();
+    let number = conics::nz_conic_chop(src, weight, &mut halves);
+    Sum::START.word(number).floats(&halves)
+}
 
 // What the choice of a level gives.
 pub fn compute_quad_pow2(r: &Record, src: &[f32]) -> Sum {
