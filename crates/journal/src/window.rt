@@ -1,6 +1,6 @@
 // A journal's bytes, gathered record by record. A record is judged each time that a byte of it comes: until it is whole or refused
-// it is cut off, and 34 bytes decide, so that no more are kept however long the journal is. The pieces of an input are not
-// `line_input`'s: a refused record ends them, and an input that fails is told and no error.
+// it is cut off, and 34 bytes decide, so that no more are kept however long the journal is. The loop over the pieces is not that
+// of `dates`: a refused record ends it, and an input that fails is told and no error.
 use super::text;
 use arrayvec::ArrayVec;
 use records::{Found, Record};
