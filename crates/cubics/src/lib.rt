@@ -217,7 +217,14 @@ pub fn find_cubic_extrema(a: f32, b: f32, c: f32, d: f32) -> Roots
 {
     let aa = d - a + 3.0 * (b - c);
     let bb = 2.0 * (a - b - b + c);
-    quad_roots::find_unit_quad_roots(aa, bb, b - a)
+    let roots = quad_roots::find_unit_quad_roots(aa, bb, b - a);
+    if let Roots::One(t) = roots {
+        return Roots::One(t);
+    }
+    let Roots::Two(t, u) = roots else {
+        return Roots::None;
+    };
+    Roots::Two(t, u)
 }
 
 // Where the curvature is zero.
@@ -229,5 +236,12 @@ pub fn find_cubic_inflections(src: &[f32]) -> Result<Roots, Refusal>
     let Ok(cubic) = cubic_of(src) else {
         return Err(Refusal::BufferTooShort);
     };
-    Ok(cubic.inflections())
+    let roots = cubic.inflections();
+    if let Roots::One(t) = roots {
+        return Ok(Roots::One(t));
+    }
+    let Roots::Two(t, u) = roots else {
+        return Ok(Roots::None);
+    };
+    Ok(Roots::Two(t, u))
 }

@@ -207,7 +207,10 @@ pub fn find_quad_extrema(a: f32, b: f32, c: f32) -> Option<f32>
     ensures number { number_of_divided result ≡ 0 }
     ensures inside { Rising (values_of_divided result) }
 {
-    quad_roots::valid_unit_divide(a - b, a - b - b + c)
+    let Some(t) = quad_roots::valid_unit_divide(a - b, a - b - b + c) else {
+        return None;
+    };
+    Some(t)
 }
 
 // Where the curvature is greatest: 0, 1, or a quotient.

@@ -76,10 +76,13 @@ fn unskewed(ts: Transform) -> Result<Computed, Refusal>
 }
 
 // The inverse of a skewed transform, or why there is none.
+#[tactic(auto, unfolding(crate::specs::Inverse::inv_determinant))]
 fn skewed(ts: Transform) -> Result<Computed, Refusal>
     ensures { result ≡ skewed_inversion ts (inv_determinant ts) }
 {
-    let inv_det = inv_determinant(ts)?;
+    let Ok(inv_det) = inv_determinant(ts) else {
+        return Err(Refusal::NearlySingular);
+    };
     let inverse = compute_inv(ts, inv_det.value);
     checked(Computed {
         rounded: inv_det.rounded | inverse.rounded,
