@@ -38,7 +38,9 @@ fn plain(a: f32, b: f32, c: f32, weight: f32, scale: f32) -> Line
     }
 }
 
-// The middle of a line computed through `f64`, and narrowed once.
+// The middle of a line computed through `f64`, and narrowed once. It is rare, and as a part of a chop it would make that too long to
+// be a part of the recursion: cuts that are corrected would take half as long again (docs/SPEED.md).
+#[inline(never)]
 #[tactic(auto, using(float_ground::proofs::Losses::carried), unfolding(crate::specs::Chop::wide_middle))]
 fn wide_middle(a: f32, b: f32, c: f32, weight: f32) -> f32
     ensures { result ≡ wide_middle a b c weight }
@@ -125,13 +127,13 @@ pub fn mended(c: Conic, l: Lines) -> Lines
     }
 }
 
-// The halves of c that these lines make.
+// The halves of c that these lines make, number by number: a point that is copied whole waits for the stores of its numbers.
 pub fn halves(c: Conic, l: Lines, weight: f32) -> Halves
     ensures { result ≡ halves_at weight c l }
 {
     let rule = c.rule;
     let first = Conic {
-        p0: c.p0,
+        p0: Point::from_xy(c.p0.x, c.p0.y),
         p1: Point {
             x: l.x.left,
             y: l.y.left,
@@ -152,7 +154,7 @@ pub fn halves(c: Conic, l: Lines, weight: f32) -> Halves
             x: l.x.right,
             y: l.y.right,
         },
-        p2: c.p2,
+        p2: Point::from_xy(c.p2.x, c.p2.y),
         weight,
         rule,
     };

@@ -27,8 +27,8 @@ pub fn put_quad(out: &mut [f32], at: usize, c: Conic) -> usize
     requires { at + 4 ≤ length out.old }
     ensures { (result ≡ at + 4) × (out.new ≡ sets out.old at (flat (c.p1 ∷ c.p2 ∷ []))) }
 {
-    let next = put(out, at, c.p1);
-    put(out, next, c.p2)
+    let next = put(out, at, Point::from_xy(c.p1.x, c.p1.y));
+    put(out, next, Point::from_xy(c.p2.x, c.p2.y))
 }
 
 // Stores both halves, each as a quad.

@@ -154,6 +154,20 @@ fn subdivide(out: &mut [f32], at: usize, rungs: &[f32; RUNGS], c: Conic, level: 
     subdivide(out, next, rungs, h.second, less)
 }
 
+// c itself, put together number by number. What is handed on by value stands in memory, and a read that spans several stores
+// waits for them (docs/SPEED.md).
+fn put_together(c: Conic) -> Conic
+    ensures { result ≡ c }
+{
+    Conic {
+        p0: Point::from_xy(c.p0.x, c.p0.y),
+        p1: Point::from_xy(c.p1.x, c.p1.y),
+        p2: Point::from_xy(c.p2.x, c.p2.y),
+        weight: c.weight,
+        rule: c.rule,
+    }
+}
+
 // Stores all the points of the cut but the first from `at` on, at any level, and answers the next place.
 #[tactic(auto, using(crate::proofs::Ladder::climbed))]
 pub fn cut(out: &mut [f32], at: usize, c: Conic, level: u32) -> usize
@@ -169,5 +183,5 @@ pub fn cut(out: &mut [f32], at: usize, c: Conic, level: u32) -> usize
     if level == 1 {
         return in_full(out, at, &rungs, c, level);
     }
-    subdivide(out, at, &rungs, c, level)
+    subdivide(out, at, &rungs, put_together(c), level)
 }
