@@ -1,8 +1,7 @@
 -- Laws on the bytes before the first of a kind, and those from it on. Assumes nothing.
-use Rattle.std.proofs.Common.{◌≡◌, ℕ, ◌+◌, ◌-◌, ◌≤◌, Bool, true, false, List, [], ◌∷◌, length, take, drop, sym, refl, ap, ◌∙◌, arith, length-drop, take_all, drop-drop, ltb, ltb-false, lt-ltb}
-use Rattle.std.specs.Prelude.{Option, Some, None, cond, ◌&&◌}
-use Rattle.std.specs.List.{list_all, position_or_len}
-use Rattle.std.specs.Option.{unwrap_or}
+use Rattle.std.proofs.Common.{◌≡◌, ℕ, suc, ◌+◌, ◌-◌, ◌<◌, ◌≤◌, Bool, true, false, List, [], ◌∷◌, length, take, drop, sym, refl, ap, ◌∙◌, arith, length-drop, take_all, drop-cons, drop-drop, drop_of_length-le, get_or, lt-ltb}
+use Rattle.std.specs.Prelude.{◌&&◌}
+use Rattle.std.specs.List.{list_all}
 use Rattle.bridge_lines.specs.Words.{is_digit, before, from}
 use Rattle.bridge_lines.specs.Decimal.{all_digits, is_whole}
 
@@ -52,6 +51,21 @@ module _ (p : ℕ → Bool) where
   sits [] = refl
   sits (b ∷ l) = sits_by (p b) b l refl (sits l)
 
+  -- ---- at an index
+
+  pub stands : (l : List ℕ) (i : ℕ) → i < length l → p (get_or l i 0) ≡ true → length (before p (drop i l)) ≡ 0
+  unfolding before
+  stands l i h e = rw (drop-cons l i 0 h, e)
+
+  pub passed : (l : List ℕ) (i : ℕ) → i < length l → p (get_or l i 0) ≡ false →
+      length (before p (drop i l)) ≡ suc (length (before p (drop (suc i) l)))
+  unfolding before
+  passed l i h e = rw (drop-cons l i 0 h, e)
+
+  pub none : (l : List ℕ) (i : ℕ) → length l ≤ i → length (before p (drop i l)) ≡ 0
+  unfolding before
+  none l i h = rw (drop_of_length-le l h)
+
   -- what stands between an index and the one that is found, and from there on
 
   pub part : (l : List ℕ) (i e : ℕ) → e ≡ i + length (before p (drop i l)) → take (e - i) (drop i l) ≡ before p (drop i l)
@@ -71,24 +85,3 @@ all_are (b ∷ l) = ap (λ (t : Bool). is_digit b && t) (all_are l)
 
 pub digits_are : (l : List ℕ) → (length l ≡ 0 → ⊥) → list_all is_digit l ≡ is_whole l
 digits_are l h = all_are l ∙ sym (rw (lt-ltb 0 (length l) (omega arith)))
-
--- ---- what `position` finds
-found_by : (t : Bool) (p : ℕ → Bool) (b : ℕ) (l : List ℕ) → p b ≡ t → position_or_len p l ≡ length (before p l)
-    → position_or_len p (b ∷ l) ≡ length (before p (b ∷ l))
-unfolding before
-found_by true p b l e h = rw e
-found_by false p b l e h = rw e (omega (arith, h))
-
-position_is : (p : ℕ → Bool) (l : List ℕ) → position_or_len p l ≡ length (before p l)
-unfolding before
-position_is p [] = refl
-position_is p (b ∷ l) = found_by (p b) p b l refl (position_is p l)
-
--- or the length, where it finds nothing
-pub or_length : (p : ℕ → Bool) (l : List ℕ) (r : Option ℕ) (n : ℕ) → r ≡ cond (ltb (position_or_len p l) (length l)) (Some (position_or_len p l)) None
-    → n ≡ unwrap_or r (length l) → n ≡ length (before p l)
-or_length p l r n e m = go (ltb (position_or_len p l) (length l)) refl (rw e at m)
-  where
-    go : (t : Bool) → ltb (position_or_len p l) (length l) ≡ t → n ≡ unwrap_or (cond t (Some (position_or_len p l)) None) (length l) → n ≡ length (before p l)
-    go true f m = m ∙ position_is p l
-    go false f m = omega (arith, position_is p l, ltb-false (position_or_len p l) (length l) f, within p l, m)

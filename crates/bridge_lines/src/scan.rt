@@ -24,16 +24,18 @@ fn is_of(kind: Kind, b: u8) -> bool
     }
 }
 
-// Where the first byte of a kind is, from `at` on; the end where there is none.
+// Where the first byte of a kind is, from `at` on; the end where there is none. By places: each word is looked for like this, and
+// `position` over what is left takes a third more instructions (docs/SPEED.md).
 pub fn first(s: &[u8], at: usize, kind: Kind) -> usize
     requires { at ≤ length s.now }
     ensures { (result ≤ length s.now) × (result ≡ at + length (before (is_of kind) (drop at s.now))) }
 {
-    let rest = &s[at..];
-    at + rest
-        .iter()
-        .position(|b| is_of(kind, *b))
-        .unwrap_or(rest.len())
+    for i in at..s.len() {
+        if is_of(kind, s[i]) {
+            return i;
+        }
+    }
+    s.len()
 }
 
 // The word with k words before it, and an empty one where there is none. A line is short, so that each is looked for
