@@ -1,4 +1,5 @@
 pub mod Decimal
+pub mod Faults
 pub mod Kinds
 pub mod Pad
 pub mod Reading

@@ -1,4 +1,8 @@
 // What is wrong with a line, in words.
+ghost use Rattle.std.specs.Prelude.{Some};
+ghost use Rattle.std.specs.Fmt.{DisplaysOnOk};
+ghost use Rattle.bridge_lines.specs.Faults.{told_of};
+
 use super::{Bad, Fault};
 use std::fmt;
 use std::fmt::Display;
@@ -12,9 +16,14 @@ pub struct BadBridge(pub Bad);
 pub struct BadStroke(pub Bad);
 
 impl Display for BadBridge {
+    ghost use Rattle.std.specs.Prelude.{Some};
+    ghost use Rattle.bridge_lines.specs.Faults.{words_of_bridge};
+
+    ghost output = { λ bad. Some (words_of_bridge bad.0) };
+
     fn fmt<W: fmt::Write>(&self, f: &mut fmt::Formatter<W>) -> fmt::Result {
         let wanted = match self.0.place {
-            1..=6 => "no whole number from -16777216 to 16777216",
+            0..=6 => "no whole number from -16777216 to 16777216",
             7 => {
                 "no number such as 2 or -0.75, with at most 7 digits, at most 6 of them behind the point"
             }
@@ -25,18 +34,21 @@ impl Display for BadBridge {
 }
 
 impl Display for BadStroke {
+    ghost use Rattle.std.specs.Prelude.{Some};
+    ghost use Rattle.bridge_lines.specs.Faults.{words_of_stroke};
+
+    ghost output = { λ bad. Some (words_of_stroke bad.0) };
+
     fn fmt<W: fmt::Write>(&self, f: &mut fmt::Formatter<W>) -> fmt::Result {
         tell(f, self.0, "no whole number from 0 to 4294967295", 1)
     }
 }
 
 // By what a number at its place is to be, and the place of the last one.
-fn tell<W: fmt::Write>(
-    f: &mut fmt::Formatter<W>,
-    bad: Bad,
-    wanted: &str,
-    last: u32,
-) -> fmt::Result {
+#[tactic(auto, unfolding(crate::specs::Faults::told_of))]
+fn tell<W: fmt::Write>(f: &mut fmt::Formatter<W>, bad: Bad, wanted: &str, last: u32) -> fmt::Result
+    ensures { DisplaysOnOk W.write_str_gives f.old result (Some (told_of bad.why bad.place wanted.now last)) f.new }
+{
     let place = bad.place;
     match bad.why {
         Fault::NoNumber => write!(f, "number {place} is {wanted}"),

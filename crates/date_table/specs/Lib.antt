@@ -6,3 +6,4 @@ pub mod Making
 pub mod Search
 pub mod Table
 pub mod Whole
+pub mod Words

@@ -59,6 +59,11 @@ impl Numbered for Refusal {
 }
 
 impl fmt::Display for Refusal {
+    ghost use Rattle.std.specs.Prelude.{Some};
+    ghost use Rattle.date_table.specs.Words.{words_of_refusal};
+
+    ghost output = { λ why. Some (words_of_refusal why) };
+
     fn fmt<W: fmt::Write>(&self, f: &mut fmt::Formatter<W>) -> fmt::Result {
         match self {
             Refusal::LevelTooHigh => write!(f, "level too high"),
