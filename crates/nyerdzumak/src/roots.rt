@@ -35,11 +35,12 @@ fn give_one(found: Option<f32>, root: &mut f32) -> u32
     ensures value { result ≡ length (values_of_divided found) }
     ensures root { root.new ≡ first_or root.old (values_of_divided found) }
 {
+    let count = quad_roots::quotient_count(found);
     match found {
-        None => 0,
+        None => count,
         Some(r) => {
             *root = r;
-            1
+            count
         }
     }
 }

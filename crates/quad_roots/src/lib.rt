@@ -7,6 +7,23 @@ ghost use Rattle.quad_roots.specs.Roots as R;
 
 use float_ground::{is_finite_f32, narrow, sqrt_f64, widen};
 
+// A quotient's number in docs/RULES.md, "Answer numbers".
+pub fn quotient_number(quotient: Option<f32>) -> u32
+    ensures { result ≡ R.number_of_divided quotient }
+{
+    0 // no quotient is an answer, not a refusal
+}
+
+// How many quotients there are.
+pub fn quotient_count(quotient: Option<f32>) -> u32
+    ensures { result ≡ length (R.values_of_divided quotient) }
+{
+    match quotient {
+        None => 0,
+        Some(_) => 1,
+    }
+}
+
 // The roots strictly between 0 and 1; two are strictly increasing.
 #[derive(Clone, Copy)]
 pub enum Roots {
@@ -16,6 +33,13 @@ pub enum Roots {
 }
 
 impl Roots {
+    // Its number in docs/RULES.md, "Answer numbers".
+    pub fn number(self) -> u32
+        ensures { result ≡ R.number_of_roots self }
+    {
+        0 // no root is an answer, not a refusal
+    }
+
     // How many roots there are.
     pub fn count(self) -> u32
         ensures { result ≡ length (R.values_of_roots self) }
